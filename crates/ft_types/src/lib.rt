@@ -1,0 +1,21 @@
+//! The values of a module: orders, patterns and cells, instruments with their
+//! envelopes, and samples.
+//!
+//! A module is a plain value. Its lists are `Items`, which contracts see as the
+//! list of their elements. Which modules are valid, and which are plain, is
+//! defined in `specs/`.
+#![tactic(auto)]
+
+mod instrument;
+mod items;
+mod module;
+mod no_memory;
+mod pattern;
+mod sample;
+
+pub use instrument::{Envelope, Instrument, Instruments, Point, Vibrato};
+pub use items::Items;
+pub use module::{Module, Orders};
+pub use no_memory::NoMemory;
+pub use pattern::{Cell, Cells, Pattern, Patterns};
+pub use sample::{Frames, Sample, Samples};
