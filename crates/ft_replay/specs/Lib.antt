@@ -1,0 +1,6 @@
+pub mod State
+pub mod Pitch
+pub mod Row
+pub mod Tick
+pub mod Sound
+pub mod Replay

@@ -1,0 +1,9 @@
+//! The state of a song that plays, and the definition of its replay.
+//!
+//! The types are the program's; what a tick makes of them is defined in `specs/`:
+//! pitch, the rules of a row, the tick, its sound, and the replay of a whole song.
+#![tactic(auto)]
+
+mod state;
+
+pub use state::{Channel, Control, Place, SongState};
