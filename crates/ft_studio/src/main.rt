@@ -1,0 +1,7 @@
+//! xmstudio: plays songs of the Extended Module format.
+#![tactic(auto)]
+
+mod names;
+mod words;
+
+fn main() {}
