@@ -1,0 +1,35 @@
+//! Where bytes come from and where they go: the traits of the outside, their forms
+//! in memory, and the adapters over files and standard output.
+//!
+//! A `Source` and a `Sink` count their faults. A call answers `Failed` only where the
+//! count rose, so a caller that hands a fault on can name its cause. What a source
+//! has left and what a sink holds is told by the forms in memory, and not by files.
+#![tactic(auto)]
+
+mod calls;
+mod file_sink;
+mod file_source;
+mod memory_sink;
+mod memory_source;
+mod out_sink;
+mod putting;
+mod reading;
+mod shelf;
+mod sink;
+mod source;
+mod supply;
+mod sure;
+
+pub use file_sink::FileSink;
+pub use file_source::FileSource;
+pub use memory_sink::MemSink;
+pub use memory_source::MemSource;
+pub use out_sink::OutSink;
+pub use putting::{WriteFault, put_all};
+pub use reading::{ReadFault, read_all};
+pub use sink::Sink;
+pub use source::{Failed, Source};
+pub use sure::{SureSink, SureSource};
+
+#[cfg(test)]
+mod tests;
