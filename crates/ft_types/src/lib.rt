@@ -12,6 +12,7 @@ mod module;
 mod no_memory;
 mod pattern;
 mod sample;
+mod steps;
 
 pub use instrument::{Envelope, Instrument, Instruments, Point, Vibrato};
 pub use items::Items;
@@ -19,3 +20,4 @@ pub use module::{Module, Orders};
 pub use no_memory::NoMemory;
 pub use pattern::{Cell, Cells, Pattern, Patterns};
 pub use sample::{Frames, Sample, Samples};
+pub use steps::Steps;
