@@ -12,6 +12,7 @@ mod module;
 mod no_memory;
 mod pattern;
 mod sample;
+mod steps;
 mod voice;
 
 pub use instrument::{Envelope, Instrument, Instruments, Point, Vibrato};
@@ -20,4 +21,8 @@ pub use module::{Module, Orders};
 pub use no_memory::NoMemory;
 pub use pattern::{Cell, Cells, Pattern, Patterns};
 pub use sample::{Frames, Sample, Samples};
+pub use steps::Steps;
 pub use voice::{SampleHead, Voice};
+
+#[cfg(test)]
+mod tests;
