@@ -1,0 +1,34 @@
+use super::*;
+use ft_outer::{MemSink, SureSink, WriteFault};
+use std::test::Fail;
+
+#[test]
+fn the_head_of_a_second_of_sound(rt: HostRuntime) {
+    let slow = b"RIFF\x24\x7d\x00\x00WAVEfmt \x10\x00\x00\x00\x01\x00\x02\x00\
+        \x40\x1f\x00\x00\x00\x7d\x00\x00\x04\x00\x10\x00data\x00\x7d\x00\x00";
+    let usual = b"RIFF\x34\xb1\x02\x00WAVEfmt \x10\x00\x00\x00\x01\x00\x02\x00\
+        \x44\xac\x00\x00\x10\xb1\x02\x00\x04\x00\x10\x00data\x10\xb1\x02\x00";
+    for (rate, head) in [(8_000, slow), (44_100, usual)] {
+        assert_eq!(rt; wav_head(rate, rate), *head);
+    }
+}
+
+#[test]
+fn frames_are_bytes_however_they_are_taken(rt: HostRuntime) -> Result<(), Fail> {
+    let mut sink = SureSink::new(rt.alloc(), 100, 3)?;
+    assert_eq!(rt; put_frames(&mut sink, &[-1, 256, 32_767, -32_768]), Ok(()));
+    assert_eq!(rt; put_frames(&mut sink, &[1]), Ok(()));
+    assert_eq!(rt;
+        sink.bytes(),
+        b"\xff\xff\x00\x01\xff\x7f\x00\x80\x01\x00".as_slice()
+    );
+    Ok(())
+}
+
+#[test]
+fn a_fault_keeps_a_front(rt: HostRuntime) -> Result<(), Fail> {
+    let mut sink = MemSink::new(rt.alloc(), 100, 5, [2].to_vec(rt.alloc())?)?;
+    assert_eq!(rt; put_frames(&mut sink, &[1, 2, 3, 4]), Err(WriteFault));
+    assert_eq!(rt; sink.bytes(), b"\x01\x00\x02\x00\x03".as_slice());
+    Ok(())
+}
