@@ -1,5 +1,5 @@
 -- What the words of a command line ask for.
-use Rattle.std.specs.Prelude.{ℕ, ◌==◌, ◌&&◌, not, Bool, List, [], length, map, get_or, slice_index, Option, Some, None, String, string_bytes, bytes_eq, codes, nat_le, if◌then◌else◌}
+use Rattle.std.specs.Prelude.{ℕ, ◌≤◌, ◌==◌, ◌&&◌, not, Bool, List, [], length, map, get_or, slice_index, Option, Some, None, String, string_bytes, bytes_eq, codes, nat_le, if◌then◌else◌}
 use Rattle.std.specs.declared.alloc.Global.{Global}
 use Rattle.ft_studio.specs.declared.words.Step.{Step}
 use Rattle.ft_studio.specs.Numbers.{option_number}
@@ -22,6 +22,13 @@ seconds_of text = option_number (codes "--seconds=") 1 1200 text
 
 abbrev pub step_at : ℕ → ℕ → Step
 step_at rate seconds = record { rate = rate; seconds = seconds }
+
+-- what a command may ask for
+pub record IsAsked (step : Step) : Type 0 where
+  pub low_rate : 8000 ≤ step.rate
+  pub high_rate : step.rate ≤ 48000
+  pub some_seconds : 1 ≤ step.seconds
+  pub few_seconds : step.seconds ≤ 1200
 
 -- one option: the rate, or the seconds
 abbrev pub either_option : Option ℕ → Option ℕ → Option Step

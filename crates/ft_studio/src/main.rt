@@ -2,6 +2,7 @@
 #![tactic(auto)]
 
 mod names;
+mod play;
 mod words;
 
 fn main() {}

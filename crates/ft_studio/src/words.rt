@@ -1,10 +1,10 @@
 //! The words of the command line.
 
-ghost use Rattle.std.specs.Prelude.{◌≡◌, ◌<◌, ◌≤◌, ◌^◌, length, take, drop, codes, MatchOption, OnSome, Some, None};
+ghost use Rattle.std.specs.Prelude.{◌≡◌, ◌<◌, ◌≤◌, ◌^◌, length, take, drop, codes, MatchOption, OnSome, IfSome, Some, None};
 ghost use Rattle.std.specs.List.{starts_with};
 ghost use Rattle.std.specs.Prelude.{nat_eq, true, false};
 ghost use Rattle.ft_studio.specs.Numbers.{digits_value, is_number, number_within, option_number};
-ghost use Rattle.ft_studio.specs.Words.{word_at, is_name, rate_of, seconds_of, either_option, both_options, options_of, step_of};
+ghost use Rattle.ft_studio.specs.Words.{IsAsked, word_at, is_name, rate_of, seconds_of, either_option, both_options, options_of, step_of};
 
 /// Frames a second where no rate is named.
 const DEFAULT_RATE: u32 = 44_100;
@@ -40,7 +40,8 @@ fn number_of(digits: &[u8]) -> Option<u32>
 
 /// A number within a range.
 fn number_in(digits: &[u8], low: u32, high: u32) -> Option<u32>
-    ensures { result ≡ number_within low high digits.now }
+    ensures value { result ≡ number_within low high digits.now }
+    ensures within { IfSome result (λ n. (low ≤ n) × (n ≤ high)) }
 {
     let number = number_of(digits)?;
     if number < low || high < number {
@@ -51,7 +52,8 @@ fn number_in(digits: &[u8], low: u32, high: u32) -> Option<u32>
 
 /// The number of an option that is written as `--name=N`.
 fn option_in(text: &[u8], name: &[u8], low: u32, high: u32) -> Option<u32>
-    ensures { result ≡ option_number name.now low high text.now }
+    ensures value { result ≡ option_number name.now low high text.now }
+    ensures within { IfSome result (λ n. (low ≤ n) × (n ≤ high)) }
 {
     if !text.starts_with(name) {
         return None;
@@ -79,21 +81,24 @@ fn can_name(text: &[u8]) -> bool
 
 /// The rate of `--rate=N`.
 fn rate_in(text: &[u8]) -> Option<u32>
-    ensures { result ≡ rate_of text.now }
+    ensures value { result ≡ rate_of text.now }
+    ensures within { IfSome result (λ rate. (8000 ≤ rate) × (rate ≤ 48000)) }
 {
     option_in(text, b"--rate=", 8_000, 48_000)
 }
 
 /// The seconds of `--seconds=N`.
 fn seconds_in(text: &[u8]) -> Option<u32>
-    ensures { result ≡ seconds_of text.now }
+    ensures value { result ≡ seconds_of text.now }
+    ensures within { IfSome result (λ seconds. (1 ≤ seconds) × (seconds ≤ 1200)) }
 {
     option_in(text, b"--seconds=", 1, 1_200)
 }
 
 /// A lone option: the rate, or the seconds.
 fn either_in(text: &[u8]) -> Option<Step>
-    ensures { result ≡ either_option (rate_of text.now) (seconds_of text.now) }
+    ensures value { result ≡ either_option (rate_of text.now) (seconds_of text.now) }
+    ensures asked { IfSome result IsAsked }
 {
     if let Some(rate) = rate_in(text) {
         return Some(Step {
@@ -110,7 +115,8 @@ fn either_in(text: &[u8]) -> Option<Step>
 
 /// Two options: the rate, and then the seconds.
 fn both_in(first: &[u8], second: &[u8]) -> Option<Step>
-    ensures { result ≡ both_options (rate_of first.now) (seconds_of second.now) }
+    ensures value { result ≡ both_options (rate_of first.now) (seconds_of second.now) }
+    ensures asked { IfSome result IsAsked }
 {
     let rate = rate_in(first)?;
     let seconds = seconds_in(second)?;
@@ -120,7 +126,8 @@ fn both_in(first: &[u8], second: &[u8]) -> Option<Step>
 /// The options behind the names of the files.
 fn options_in(words: &[String]) -> Option<Step>
     requires { 4 ≤ length words.now }
-    ensures { result ≡ options_of words.now }
+    ensures value { result ≡ options_of words.now }
+    ensures asked { IfSome result IsAsked }
 {
     match words.len() {
         4 => Some(Step {
@@ -138,6 +145,7 @@ fn options_in(words: &[String]) -> Option<Step>
 #[tactic(auto, unfolding(crate::specs::Words::step_of))]
 pub fn step_of(words: &[String]) -> Option<Step>
     ensures value { result ≡ step_of words.now }
+    ensures asked { IfSome result IsAsked }
     ensures words { OnSome result (4 ≤ length words.now) }
 {
     if words.len() < 4 {
