@@ -1,2 +1,4 @@
+pub mod Codes
 pub mod Numbers
+pub mod Run
 pub mod Words

@@ -1,0 +1,7 @@
+//! Runs over sources and sinks in memory.
+
+mod helpers;
+mod outside;
+mod refusals;
+mod silence;
+mod words;
