@@ -1,0 +1,252 @@
+-- The two laws of a part: what is spelled so is read, and what is read is spelled so. They hold
+-- of each part that is made of lawful parts.
+use Rattle.std.proofs.Common.{◌≡◌, ℕ, ◌+◌, ◌^◌, ◌<◌, ◌≤◌, Bool, true, false, cond, ltb, inl, inr, List, [], ◌∷◌, ◌++◌, length, get_or, take, drop, Result, Ok, Err, refl, sym, ap, subst, ◌∙◌, append_assoc, arith}
+use Rattle.std.proofs.lemmas.Bool.{ltb-false, le-ltb, cases_lt}
+use Rattle.std.proofs.lemmas.List.{append-nil, length-append, get_or-drop, get_or-take, get_or_past, length-take, take-append-drop}
+use Rattle.std.proofs.lemmas.Nat.{le_bytes_2, le_bytes_4}
+use Rattle.std.proofs.Math.Seq.{take-append_seam, drop-append_seam}
+use Rattle.byteorder.specs.Endian.{little_number, little_bytes}
+use Rattle.byteorder.specs.Numbers.{little_number-reads_back, length-bytes_low_first, little_from-lt}
+use Rattle.ft_xmread.specs.declared.fault.XmFault.{XmFault}
+use Rattle.ft_xmread.specs.declared.fault.XmFault.TheVariants.{Count}
+use Rattle.std.specs.Prelude.{nat_lt}
+use Rattle.ft_xmread.specs.Reading.{Place, Reading, ◌>>=◌, field_at, number_at, both, checked, seen, count_at}
+
+abbrev pub IsBytes : List ℕ → Type 0
+IsBytes bytes = (i : ℕ) → get_or bytes i 0 < 256
+
+pub IsBytes-drop : (n : ℕ) (bytes : List ℕ) → IsBytes bytes → IsBytes (drop n bytes)
+IsBytes-drop n bytes h i = rw get_or-drop (h (n + i))
+
+pub IsBytes-take : (n : ℕ) (bytes : List ℕ) → IsBytes bytes → IsBytes (take n bytes)
+IsBytes-take n bytes h i =
+    elim (cases_lt i n) [
+      | inl lt ↦ rw (get_or-take n bytes i 0 lt) (h i)
+      | inr le ↦ rw (get_or_past (take n bytes) i 0 (omega (arith, length-take n bytes))) (omega arith)
+    ]
+
+-- what a part took from the front of a place
+pub record Takes {A : Type 0} (text : A → List ℕ) (Fits : A → Type 0) (p : Place) (x : A × Place) : Type 0 where
+  pub fits : Fits x.0
+  pub parts : p.left ≡ text x.0 ++ x.1.left
+  pub bytes : IsBytes x.1.left
+
+pub record Lawful {A : Type 0} (one : Reading A) (text : A → List ℕ) (Fits : A → Type 0) : Type 0 where
+  pub again : (at : ℕ) (x : A) (rest : List ℕ) → Fits x → one (record { at = at; left = text x ++ rest }) ≡ Ok (x, record { at = at + length (text x); left = rest })
+  pub takes : (p : Place) (x : A × Place) → IsBytes p.left → one p ≡ Ok x → Takes text Fits p x
+
+-- ---- tools
+
+pub bind_ok : {A B : Type 0} (r : Result A XmFault) (f : A → Result B XmFault) (y : B) → (r >>= f) ≡ Ok y → (x : A) × (r ≡ Ok x) × (f x ≡ Ok y)
+bind_ok (Ok x) f y e = (x, refl, e)
+bind_ok (Err d) f y e = absurd cc
+
+pub passed : {A : Type 0} (b : Bool) (d : XmFault) (r : Result A XmFault) (y : A) → cond b (Err d) r ≡ Ok y → (b ≡ false) × (r ≡ Ok y)
+passed true d r y e = absurd cc
+passed false d r y e = (refl, e)
+
+abbrev done : {A : Type 0} → A → Result A XmFault
+done x = Ok x
+
+pub ok_is : {A : Type 0} (x y : A) → done x ≡ done y → x ≡ y
+ok_is x y e = cc
+
+-- ---- fields and numbers
+
+-- as many bytes
+abbrev pub IsField : ℕ → List ℕ → Type 0
+IsField n bytes = (length bytes ≡ n) × IsBytes bytes
+
+field_front : (at : ℕ) (piece rest : List ℕ) → field_at (length piece) (record { at = at; left = piece ++ rest }) ≡ Ok (piece, record { at = at + length piece; left = rest })
+unfolding field_at
+field_front at piece rest =
+    let long : ltb (length (piece ++ rest)) (length piece) ≡ false = le-ltb _ _ (omega (arith, length-append piece rest)) in
+    rw (long, take-append_seam piece rest, drop-append_seam piece rest) refl
+
+pub field_again : (at : ℕ) (piece rest : List ℕ) (n : ℕ) → length piece ≡ n → field_at n (record { at = at; left = piece ++ rest }) ≡ Ok (piece, record { at = at + length piece; left = rest })
+field_again at piece rest n len =
+    subst (λ (k : ℕ). field_at k (record { at = at; left = piece ++ rest }) ≡ Ok (piece, record { at = at + length piece; left = rest })) len (field_front at piece rest)
+
+field_takes : (n : ℕ) (p : Place) (x : List ℕ × Place) → IsBytes p.left → field_at n p ≡ Ok x → Takes (λ (l : List ℕ). l) (IsField n) p x
+unfolding field_at
+field_takes n p x fits e =
+    let g = passed _ _ _ x e in
+    let long : n ≤ length p.left = ltb-false _ _ g.0 in
+    subst (λ (y : List ℕ × Place). Takes (λ (l : List ℕ). l) (IsField n) p y) (ok_is (take n p.left, record { at = p.at + n; left = drop n p.left }) x g.1)
+    (record {
+      fits = (omega (arith, length-take n p.left), IsBytes-take n p.left fits);
+      parts = sym (take-append-drop n p.left);
+      bytes = IsBytes-drop n p.left fits;
+    })
+
+pub field_law : (n : ℕ) → Lawful (field_at n) (λ (l : List ℕ). l) (IsField n)
+field_law n = record {
+  again = λ at x rest fits. field_again at x rest n fits.0;
+  takes = λ p x bytes e. field_takes n p x bytes e;
+}
+
+-- the bytes of a number that n bytes gave are these bytes
+abbrev pub GivesBack : ℕ → Type 0
+GivesBack n = (bytes : List ℕ) → length bytes ≡ n → IsBytes bytes → little_bytes n (little_number n bytes) ≡ bytes
+
+pub back_1 : GivesBack 1
+back_1 [] len fits = absurd (omega arith)
+back_1 (x ∷ []) len fits = ap (λ (b : ℕ). b ∷ []) (omega (arith, fits 0))
+back_1 (x ∷ y ∷ l) len fits = absurd (omega arith)
+
+pub back_2 : GivesBack 2
+back_2 bytes len fits = le_bytes_2 bytes (little_number 2 bytes) len fits (omega arith)
+
+pub back_4 : GivesBack 4
+back_4 bytes len fits = le_bytes_4 bytes (little_number 4 bytes) len fits (omega arith)
+
+reads_back : (n v : ℕ) → v < 256 ^ n → little_number n (little_bytes n v) ≡ v
+reads_back n v lt = ap (little_number n) (sym (append-nil (little_bytes n v))) ∙ little_number-reads_back n v [] lt
+
+-- a number of so many bytes
+abbrev pub IsNumber : ℕ → ℕ → Type 0
+IsNumber n v = v < 256 ^ n
+
+number_again : (n at v : ℕ) (rest : List ℕ) → v < 256 ^ n → number_at n (record { at = at; left = little_bytes n v ++ rest }) ≡ Ok (v, record { at = at + length (little_bytes n v); left = rest })
+unfolding number_at
+number_again n at v rest lt = rw (field_again at (little_bytes n v) rest n (length-bytes_low_first 0 n v), reads_back n v lt) refl
+
+number_takes : (n : ℕ) (p : Place) (x : ℕ × Place) → GivesBack n → IsBytes p.left → number_at n p ≡ Ok x → Takes (little_bytes n) (IsNumber n) p x
+unfolding number_at
+number_takes n p x back fits e =
+    let a = bind_ok (field_at n p) (λ f. Ok (little_number n f.0, f.1)) x e in
+    let t = field_takes n p a.0 fits a.1 in
+    let made : ℕ × Place = (little_number n a.0.0, a.0.1) in
+    subst (λ (y : ℕ × Place). Takes (little_bytes n) (IsNumber n) p y) (ok_is made x a.2)
+    (record {
+      fits = little_from-lt 0 n a.0.0 t.fits.1;
+      parts = t.parts ∙ ap (λ (l : List ℕ). l ++ a.0.1.left) (sym (back a.0.0 t.fits.0 t.fits.1));
+      bytes = t.bytes;
+    })
+
+pub number_law : (n : ℕ) → GivesBack n → Lawful (number_at n) (little_bytes n) (IsNumber n)
+number_law n back = record {
+  again = λ at x rest fits. number_again n at x rest fits;
+  takes = λ p x bytes e. number_takes n p x back bytes e;
+}
+
+-- ---- a part and another
+
+abbrev pub both_text : {A B : Type 0} → (A → List ℕ) → (A → B → List ℕ) → A × B → List ℕ
+both_text t u x = t x.0 ++ u x.0 x.1
+
+abbrev pub BothFit : {A B : Type 0} → (A → Type 0) → (A → B → Type 0) → A × B → Type 0
+BothFit F G x = F x.0 × G x.0 x.1
+
+both_again : {A B : Type 0} (one : Reading A) (other : A → Reading B) (t : A → List ℕ) (u : A → B → List ℕ) (F : A → Type 0) (G : A → B → Type 0)
+    → Lawful one t F → ((a : A) → F a → Lawful (other a) (u a) (G a))
+    → (at : ℕ) (a : A) (b : B) (rest : List ℕ) → F a → G a b
+    → both one other (record { at = at; left = (t a ++ u a b) ++ rest }) ≡ Ok ((a, b), record { at = at + length (t a ++ u a b); left = rest })
+both_again {A = A} {B = B} one other t u F G law laws at a b rest f g =
+    let n : at + length (t a ++ u a b) ≡ at + length (t a) + length (u a b) = omega (arith, length-append (t a) (u a b)) in
+    ap (λ (left : List ℕ). both one other (record { at = at; left = left })) (append_assoc (t a) (u a b) rest)
+    ∙ rw (law.again at a (u a b ++ rest) f, (laws a f).again (at + length (t a)) b rest g, n) refl
+
+both_takes : {A B : Type 0} (one : Reading A) (other : A → Reading B) (t : A → List ℕ) (u : A → B → List ℕ) (F : A → Type 0) (G : A → B → Type 0)
+    → Lawful one t F → ((a : A) → F a → Lawful (other a) (u a) (G a))
+    → (p : Place) (x : (A × B) × Place) → IsBytes p.left → both one other p ≡ Ok x → Takes (both_text t u) (BothFit F G) p x
+both_takes {A = A} {B = B} one other t u F G law laws p x bytes e =
+    let a = bind_ok (one p) _ x e in
+    let s = law.takes p a.0 bytes a.1 in
+    let b = bind_ok (other a.0.0 a.0.1) _ x a.2 in
+    let r = (laws a.0.0 s.fits).takes a.0.1 b.0 s.bytes b.1 in
+    let made : (A × B) × Place = ((a.0.0, b.0.0), b.0.1) in
+    subst (λ (y : (A × B) × Place). Takes (both_text t u) (BothFit F G) p y) (ok_is made x b.2)
+    (record {
+      fits = (s.fits, r.fits);
+      parts = s.parts ∙ ap (λ (l : List ℕ). t a.0.0 ++ l) r.parts ∙ sym (append_assoc (t a.0.0) (u a.0.0 b.0.0) b.0.1.left);
+      bytes = r.bytes;
+    })
+
+pub both_law : {A B : Type 0} (one : Reading A) (other : A → Reading B) (t : A → List ℕ) (u : A → B → List ℕ) (F : A → Type 0) (G : A → B → Type 0)
+    → Lawful one t F → ((a : A) → F a → Lawful (other a) (u a) (G a)) → Lawful (both one other) (both_text t u) (BothFit F G)
+both_law one other t u F G law laws = record {
+  again = λ at x rest fits. both_again one other t u F G law laws at x.0 x.1 rest fits.0 fits.1;
+  takes = λ p x bytes e. both_takes one other t u F G law laws p x bytes e;
+}
+
+-- ---- a check
+
+abbrev pub Passes : {A : Type 0} → (A → Type 0) → (A → Bool) → A → Type 0
+Passes F is_bad x = F x × (is_bad x ≡ false)
+
+checked_takes : {A : Type 0} (is_bad : A → Bool) (fault : ℕ → A → XmFault) (one : Reading A) (t : A → List ℕ) (F : A → Type 0) → Lawful one t F
+    → (p : Place) (x : A × Place) → IsBytes p.left → checked is_bad fault one p ≡ Ok x → Takes t (Passes F is_bad) p x
+checked_takes {A = A} is_bad fault one t F law p x bytes e =
+    let a = bind_ok (one p) _ x e in
+    let s = law.takes p a.0 bytes a.1 in
+    let b = passed _ _ _ x a.2 in
+    subst (λ (y : A × Place). Takes t (Passes F is_bad) p y) (ok_is a.0 x b.1)
+    (record { fits = (s.fits, b.0); parts = s.parts; bytes = s.bytes })
+
+pub checked_law : {A : Type 0} (is_bad : A → Bool) (fault : ℕ → A → XmFault) (one : Reading A) (t : A → List ℕ) (F : A → Type 0) → Lawful one t F → Lawful (checked is_bad fault one) t (Passes F is_bad)
+checked_law is_bad fault one t F law = record {
+  again = λ at x rest fits. rw (law.again at x rest fits.0, fits.1) refl;
+  takes = λ p x bytes e. checked_takes is_bad fault one t F law p x bytes e;
+}
+
+-- ---- another view
+
+-- each value that fits is seen as one that fits and is spelled alike
+abbrev pub IsSeen : {A B : Type 0} → (A → B) → (A → List ℕ) → (A → Type 0) → (B → List ℕ) → (B → Type 0) → Type 0
+IsSeen {A = A} view t F u G = (x : A) → F x → G (view x) × (t x ≡ u (view x))
+
+-- each value that fits is the view of one that fits and is spelled alike
+abbrev pub IsView : {A B : Type 0} → (A → B) → (B → A) → (A → List ℕ) → (A → Type 0) → (B → List ℕ) → (B → Type 0) → Type 0
+IsView {A = A} {B = B} view back t F u G = (y : B) → G y → F (back y) × (view (back y) ≡ y) × (t (back y) ≡ u y)
+
+seen_again : {A B : Type 0} (view : A → B) (one : Reading A) (t : A → List ℕ) (F : A → Type 0) → Lawful one t F
+    → (at : ℕ) (x : A) (y : B) (text rest : List ℕ) → F x → view x ≡ y → t x ≡ text → seen view one (record { at = at; left = text ++ rest }) ≡ Ok (y, record { at = at + length text; left = rest })
+seen_again view one t F law at x y text rest f v e = rw (sym e, sym v) (rw (law.again at x rest f) refl)
+
+seen_takes : {A B : Type 0} (view : A → B) (one : Reading A) (t : A → List ℕ) (F : A → Type 0) (u : B → List ℕ) (G : B → Type 0) → Lawful one t F → IsSeen view t F u G
+    → (p : Place) (y : B × Place) → IsBytes p.left → seen view one p ≡ Ok y → Takes u G p y
+seen_takes {A = A} {B = B} view one t F u G law is_seen p y bytes e =
+    let a = bind_ok (one p) _ y e in
+    let s = law.takes p a.0 bytes a.1 in
+    let made : B × Place = (view a.0.0, a.0.1) in
+    let w = is_seen a.0.0 s.fits in
+    subst (λ (z : B × Place). Takes u G p z) (ok_is made y a.2)
+    (record { fits = w.0; parts = s.parts ∙ ap (λ (l : List ℕ). l ++ a.0.1.left) w.1; bytes = s.bytes })
+
+pub seen_law : {A B : Type 0} (view : A → B) (back : B → A) (one : Reading A) (t : A → List ℕ) (F : A → Type 0) (u : B → List ℕ) (G : B → Type 0)
+    → Lawful one t F → IsSeen view t F u G → IsView view back t F u G → Lawful (seen view one) u G
+seen_law view back one t F u G law is_seen is_view = record {
+  again = λ at y rest fits. let v = is_view y fits in seen_again view one t F law at (back y) y (u y) rest v.0 v.1 v.2;
+  takes = λ p y bytes e. seen_takes view one t F u G law is_seen p y bytes e;
+}
+
+-- ---- more forms
+
+-- two parts of which neither depends on the other
+pub pair_law : {A B : Type 0} (one : Reading A) (other : Reading B) (t : A → List ℕ) (u : B → List ℕ) (F : A → Type 0) (G : B → Type 0)
+    → Lawful one t F → Lawful other u G → Lawful (both one (λ _. other)) (both_text t (λ _ b. u b)) (BothFit F (λ _ b. G b))
+pair_law one other t u F G law more = both_law one (λ _. other) t (λ _ b. u b) F (λ _ b. G b) law (λ _ _. more)
+
+-- a value that is kept in another form
+pub kept_law : {A B : Type 0} (view : A → B) (back : B → A) (one : Reading A) (t : A → List ℕ) (F : A → Type 0)
+    → Lawful one t F → ((x : A) → F x → back (view x) ≡ x) → ((y : B) → view (back y) ≡ y) → Lawful (seen view one) (λ y. t (back y)) (λ y. F (back y))
+kept_law view back one t F law there here = seen_law view back one t F (λ y. t (back y)) (λ y. F (back y)) law
+    (λ x f. (subst F (sym (there x f)) f, ap t (sym (there x f))))
+    (λ y g. (g, here y, refl))
+
+pub u8_law : Lawful (number_at 1) (little_bytes 1) (IsNumber 1)
+u8_law = number_law 1 back_1
+
+pub u16_law : Lawful (number_at 2) (little_bytes 2) (IsNumber 2)
+u16_law = number_law 2 back_2
+
+pub u32_law : Lawful (number_at 4) (little_bytes 4) (IsNumber 4)
+u32_law = number_law 4 back_4
+
+-- a number of two bytes up to a limit
+abbrev pub IsCount : ℕ → ℕ → Type 0
+IsCount most = Passes (IsNumber 2) (nat_lt most)
+
+pub count_law : (most : ℕ) → Lawful (count_at most) (little_bytes 2) (IsCount most)
+count_law most = checked_law (nat_lt most) Count (number_at 2) (little_bytes 2) (IsNumber 2) u16_law

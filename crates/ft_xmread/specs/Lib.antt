@@ -1,0 +1,5 @@
+pub mod Reading
+pub mod Identification
+pub mod Header
+pub mod Whole
+pub mod Song

@@ -1,0 +1,18 @@
+//! Reads modules from the bytes of Extended Module files.
+//!
+//! The readers of the parts go from left to right with one cursor, `Reader`. Each meets one
+//! function on lists in `specs/`, which says what the part is, every check in the order of the
+//! fields, and the place of each fault.
+#![tactic(auto)]
+
+mod fault;
+mod header;
+mod identification;
+mod reader;
+mod reading;
+
+pub use fault::XmFault;
+pub use reading::read_xm;
+
+#[cfg(test)]
+mod tests;
