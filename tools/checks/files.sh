@@ -1,0 +1,78 @@
+#!/usr/bin/env bash
+# The program on real files: what it writes, its status, its line on standard error, and what it
+# leaves alone.
+set -u
+here=$(cd "$(dirname "$0")/../.." && pwd)
+work=$(mktemp -d)
+trap 'rm -rf "$work"' EXIT
+cd "$work" || exit 1
+failed=0
+
+# expect STATUS LINE WORDS..: runs the program; LINE is all of standard error, or - for any usage line
+expect() {
+    local want=$1 line=$2
+    shift 2
+    rm -f out.wav out.ledger
+    "$here/xmstudio" "$@" >stdout 2>stderr
+    local got=$?
+    [ "$got" = "$want" ] || { echo "$*: status $got, not $want"; failed=1; }
+    [ -s stdout ] && { echo "$*: standard output isn't empty"; failed=1; }
+    if [ "$line" = - ]; then
+        grep -q '^xmstudio: usage: live or step SONG WAV LEDGER' stderr || { echo "$*: no usage line"; failed=1; }
+    elif [ "$(cat stderr)" != "$line" ]; then
+        echo "$*: standard error is: $(cat stderr)"
+        failed=1
+    fi
+}
+
+# absent FILE: the run before left no such file
+absent() {
+    [ -e "$1" ] && { echo "$1 was made"; failed=1; }
+}
+
+# wav SIZE: the run before made out.wav of so many bytes
+wav() {
+    local size
+    size=$(stat -c %s out.wav 2>/dev/null)
+    [ "$size" = "$1" ] || { echo "out.wav has $size bytes, not $1"; failed=1; }
+}
+
+"$here/xmstudio" >/dev/null 2>&1 # builds the program where it is missing
+
+silence=$here/examples/silence.xm
+expect 0 '' step "$silence" out.wav out.ledger --rate=8000 --seconds=1
+wav 32044
+absent out.ledger
+expect 0 '' step "$silence" out.wav out.ledger --seconds=2
+wav 352844
+
+expect 2 -
+expect 2 - --help
+expect 2 - step "$silence" out.wav
+expect 2 - step "$silence" out.wav out.ledger --rate=7999
+absent out.wav
+expect 2 - step $'\xff' out.wav out.ledger
+absent out.wav
+
+expect 4 'xmstudio: song could not be read' step missing.xm out.wav out.ledger
+absent out.wav
+expect 4 'xmstudio: song could not be read' step "$work" out.wav out.ledger
+absent out.wav
+
+: >empty.xm
+expect 3 'xmstudio: song refused: fault 10' step empty.xm out.wav out.ledger
+absent out.wav
+{ printf 'X'; tail -c +2 "$silence"; } >other.xm
+expect 3 'xmstudio: song refused: fault 1 0' step other.xm out.wav out.ledger
+absent out.wav
+truncate -s 67108864 most.xm
+expect 3 'xmstudio: song refused: fault 1 0' step most.xm out.wav out.ledger
+truncate -s 67108865 big.xm
+expect 3 'xmstudio: song refused: too big' step big.xm out.wav out.ledger
+absent out.wav
+
+expect 5 'xmstudio: output could not be written' step "$silence" no-such-folder/out.wav out.ledger
+expect 5 'xmstudio: output could not be written' step "$silence" /dev/full out.ledger
+
+[ "$failed" = 0 ] && echo "the program on real files: all as documented"
+exit "$failed"
