@@ -43,8 +43,8 @@ impl From<AllocError> for ReadFault {
 
 /// Reads the source until it answers 0 or has given more than `most` bytes.
 ///
-/// What it gave in this call is said after each answer. After an `Err` those bytes are gone.
-/// The memory in use is bounded by `most` bytes, as a vector grows, and one piece.
+/// What the source gave in this call is said whatever the answer is, but after an `Err` those
+/// bytes are gone. It keeps at most `most` bytes, and a buffer of 64 KiB.
 pub fn read_all<S: Source>(alloc: Global, source: &mut S, most: usize) -> Result<Vec<u8>, ReadFault>
     requires counted { S.given source.old < 2 ^ 63 }
     requires countable { most < 2 ^ 62 }
