@@ -2,7 +2,7 @@
 
 ghost use Rattle.std.specs.Prelude.{◌≡◌, ◌≢◌, ℕ, List, ◌+◌, ◌^◌, ◌<◌, ◌≤◌, length, IfOk, IsErrOf};
 ghost use Rattle.ft_outer.specs.Counts.{Rose};
-ghost use Rattle.ft_outer.specs.Pieces.{Gives, GivesAll};
+ghost use Rattle.ft_outer.specs.Pieces.{Gives, GivesAll, HasMore};
 
 use crate::source::{Failed, Source};
 use std::alloc::{AllocError, Global};
@@ -57,8 +57,9 @@ pub fn read_all<S: Source>(alloc: Global, source: &mut S, most: usize) -> Result
     ensures given { (bytes : List ℕ) × Gives (S.left source.old) (S.left source.new)
         (S.given source.old) (S.given source.new) bytes }
 
-    // It is too big exactly where the source gave more than `most` bytes.
+    // It is too big exactly where the source gave more than `most` bytes, and so had more.
     ensures too_big { IsErrOf result ReadFault.TooBig → S.given source.old + most < S.given source.new }
+    ensures had_more { IsErrOf result ReadFault.TooBig → HasMore (S.left source.old) most }
     ensures within { (result ≢ Err ReadFault.TooBig) → S.given source.new ≤ S.given source.old + most }
 
     ensures failed { IsErrOf result ReadFault.Failed → Rose (S.faults source.old) (S.faults source.new) }
