@@ -9,22 +9,37 @@ ghost use Rattle.ft_out.specs.Wav.{sound_bytes};
 use byteorder::{ByteOrder, LittleEndian};
 use ft_outer::{Sink, WriteFault, put_all};
 
-/// The most numbers that go to the sink at once: those of the longest tick, which has 3,750
-/// frames, and some more.
-const PIECE: usize = 7_504;
+/// The bytes of the longest tick: 3,750 frames of four bytes.
+pub const TICK_BYTES: usize = 15_000;
 
-/// Writes the numbers of `out`, each in two bytes, the low byte first. A piece of up to 3,752
-/// frames goes to the sink at once. Takes no memory.
+/// Writes the numbers of `out`, each in two bytes, the low byte first. The sound of a tick goes
+/// to the sink at once. Takes no memory.
 pub fn put_frames<W: Sink>(sink: &mut W, out: &[i16]) -> Result<(), WriteFault>
     ensures whole { OnOk result (Appends (W.held sink.old) (W.held sink.new) (sound_bytes out.now)) }
     ensures front { OnErr result (TakesFront (W.held sink.old) (W.held sink.new) (sound_bytes out.now)) }
     ensures cause { HasCause (W.faults sink.old) (W.faults sink.new) result }
 {
-    let mut buffer = [0; 2 * PIECE];
+    put_frames_through(sink, &mut [0; TICK_BYTES], out)
+}
+
+/// Does what `put_frames` does by way of a lent buffer, which a caller with many ticks clears but
+/// once. As many bytes as the buffer holds go to the sink at once, so one of `TICK_BYTES` serves
+/// any tick. What it holds afterwards isn't said.
+pub fn put_frames_through<W: Sink>(
+    sink: &mut W,
+    buffer: &mut [u8],
+    out: &[i16],
+) -> Result<(), WriteFault>
+    requires { 2 ≤ length buffer.old }
+    ensures whole { OnOk result (Appends (W.held sink.old) (W.held sink.new) (sound_bytes out.now)) }
+    ensures front { OnErr result (TakesFront (W.held sink.old) (W.held sink.new) (sound_bytes out.now)) }
+    ensures cause { HasCause (W.faults sink.old) (W.faults sink.new) result }
+{
+    let most = buffer.len() / 2;
     let mut rest = out;
     while !rest.is_empty() {
-        let count = rest.len().min(PIECE);
-        put_piece(sink, &mut buffer, &rest[..count])?;
+        let count = rest.len().min(most);
+        put_piece(sink, buffer, &rest[..count])?;
         rest = &rest[count..];
     }
     Ok(())

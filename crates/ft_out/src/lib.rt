@@ -4,7 +4,7 @@
 mod frames;
 mod head;
 
-pub use frames::put_frames;
+pub use frames::{TICK_BYTES, put_frames, put_frames_through};
 pub use head::wav_head;
 
 #[cfg(test)]

@@ -17,10 +17,13 @@ fn the_head_of_a_second_of_sound(rt: HostRuntime) {
 fn frames_are_bytes_however_they_are_taken(rt: HostRuntime) -> Result<(), Fail> {
     let mut sink = SureSink::new(rt.alloc(), 100, 3)?;
     assert_eq!(rt; put_frames(&mut sink, &[-1, 256, 32_767, -32_768]), Ok(()));
-    assert_eq!(rt; put_frames(&mut sink, &[1]), Ok(()));
+    assert_eq!(rt;
+        put_frames_through(&mut sink, &mut [0; 5], &[1, -1, 2]),
+        Ok(())
+    );
     assert_eq!(rt;
         sink.bytes(),
-        b"\xff\xff\x00\x01\xff\x7f\x00\x80\x01\x00".as_slice()
+        b"\xff\xff\x00\x01\xff\x7f\x00\x80\x01\x00\xff\xff\x02\x00".as_slice()
     );
     Ok(())
 }

@@ -1,9 +1,9 @@
 -- What a source gave, call after call: the lemmas of every loop over a source.
 use Rattle.std.proofs.Common.{◌≡◌, ℕ, ◌+◌, List, [], ◌++◌, length, Option, Some, None, refl, sym, ap, ◌∙◌, append_assoc, arith, ◌<◌, ◌≤◌, ◌^◌, take, length-append}
 use Rattle.std.proofs.lemmas.List.{append-nil, length-take}
-use Rattle.std.specs.Io.KnownBytes.{Consumes, Keeps}
+use Rattle.std.specs.Io.KnownBytes.{Consumes, Keeps, IsAtEnd}
 use Rattle.ft_outer.specs.Counts.{count_after}
-use Rattle.ft_outer.specs.Pieces.{Gives, GivesAll}
+use Rattle.ft_outer.specs.Pieces.{Gives, GivesAll, HasMore}
 
 -- a source that was not called gave nothing
 pub Consumes-nil : (old : Option (List ℕ)) → Consumes old old []
@@ -49,10 +49,21 @@ Gives-read a b before now n buffer consumed counted fits room = record {
   counted = omega (arith, counted, length-take n buffer);
 }
 
--- where it was told what a source had left, it gave exactly that
-pub GivesAll-told : (file bytes : List ℕ) (new : Option (List ℕ)) → GivesAll (Some file) new bytes → bytes ≡ file
-GivesAll-told file bytes None all = absurd all.consumed
-GivesAll-told file bytes (Some left) all = sym (all.consumed ∙ ap (λ (rest : List ℕ). bytes ++ rest) all.ended ∙ append-nil bytes)
+-- what was given up to an answer of 0 is all that was left
+pub GivesAll-end : (a b c : Option (List ℕ)) (n : ℕ) (bytes buffer : List ℕ) → Consumes a b bytes → Consumes b c (take n buffer) → n ≡ 0 → IsAtEnd c → GivesAll a c bytes
+GivesAll-end None b c n bytes buffer p q none end = tt
+GivesAll-end (Some a) None c n bytes buffer p q none end = absurd p
+GivesAll-end (Some a) (Some b) None n bytes buffer p q none end = absurd q
+GivesAll-end (Some a) (Some b) (Some c) n bytes buffer p q none end =
+    let nothing : b ≡ [] = q ∙ ap (λ (k : ℕ). take k buffer ++ c) none ∙ end in
+    (sym (p ∙ ap (λ (rest : List ℕ). bytes ++ rest) nothing ∙ append-nil bytes), ap Some end)
+
+-- a source that gave more than so many bytes had more
+pub HasMore-gave : (old new : Option (List ℕ)) (before now most : ℕ) (bytes : List ℕ) → Gives old new before now bytes → before + most < now → HasMore old most
+HasMore-gave None new before now most bytes p more = tt
+HasMore-gave (Some file) None before now most bytes p more = absurd p.consumed
+HasMore-gave (Some file) (Some left) before now most bytes p more =
+    omega (arith, p.counted, more, ap length p.consumed, length-append bytes left)
 
 -- so far the source gave these bytes, at most so many, and did not fail; there is a buffer for the next
 pub record HasRead (old new : Option (List ℕ)) (before now faults_before faults_now most : ℕ) (bytes buffer : List ℕ) : Type 0 where

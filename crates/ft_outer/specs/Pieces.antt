@@ -1,6 +1,6 @@
 -- What a sink took of some bytes, and what a source gave, over one call or many.
-use Rattle.std.specs.Prelude.{◌≡◌, ℕ, ◌+◌, List, ◌++◌, length, Option}
-use Rattle.std.specs.Io.KnownBytes.{Appends, Consumes, IsAtEnd}
+use Rattle.std.specs.Prelude.{◌≡◌, ℕ, ◌+◌, ◌<◌, List, [], ◌++◌, length, Option, Some, None, ⊤}
+use Rattle.std.specs.Io.KnownBytes.{Appends, Consumes}
 
 -- the sink took a front of the bytes, and this rest is left
 pub record TakesUpTo (old new : Option (List ℕ)) (bytes rest : List ℕ) : Type 0 where
@@ -17,7 +17,12 @@ pub record Gives (old new : Option (List ℕ)) (before now : ℕ) (bytes : List 
   pub consumed : Consumes old new bytes
   pub counted : now ≡ before + length bytes
 
--- the source gave these bytes, and has none left
-pub record GivesAll (old new : Option (List ℕ)) (bytes : List ℕ) : Type 0 where
-  pub consumed : Consumes old new bytes
-  pub ended : IsAtEnd new
+-- where it was told what the source had left, it gave exactly that, and nothing is left
+abbrev pub GivesAll : Option (List ℕ) → Option (List ℕ) → List ℕ → Type 0
+GivesAll None new bytes = ⊤
+GivesAll (Some file) new bytes = (bytes ≡ file) × (new ≡ Some [])
+
+-- where it is told what the source has left, that is more than so many bytes
+abbrev pub HasMore : Option (List ℕ) → ℕ → Type 0
+HasMore None most = ⊤
+HasMore (Some file) most = most < length file

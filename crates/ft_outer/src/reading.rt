@@ -2,7 +2,7 @@
 
 ghost use Rattle.std.specs.Prelude.{◌≡◌, ◌≢◌, ℕ, List, ◌+◌, ◌^◌, ◌<◌, ◌≤◌, length, IfOk, IsErrOf};
 ghost use Rattle.ft_outer.specs.Counts.{Rose};
-ghost use Rattle.ft_outer.specs.Pieces.{Gives, GivesAll};
+ghost use Rattle.ft_outer.specs.Pieces.{Gives, GivesAll, HasMore};
 
 use crate::source::{Failed, Source};
 use std::alloc::{AllocError, Global};
@@ -43,8 +43,8 @@ impl From<AllocError> for ReadFault {
 
 /// Reads the source until it answers 0 or has given more than `most` bytes.
 ///
-/// What it gave in this call is said after each answer. After an `Err` those bytes are gone.
-/// The memory in use is bounded by `most` bytes, as a vector grows, and one piece.
+/// What the source gave in this call is said whatever the answer is, but after an `Err` those
+/// bytes are gone. It keeps at most `most` bytes, and a buffer of 64 KiB.
 pub fn read_all<S: Source>(alloc: Global, source: &mut S, most: usize) -> Result<Vec<u8>, ReadFault>
     requires counted { S.given source.old < 2 ^ 63 }
     requires countable { most < 2 ^ 62 }
@@ -57,8 +57,9 @@ pub fn read_all<S: Source>(alloc: Global, source: &mut S, most: usize) -> Result
     ensures given { (bytes : List ℕ) × Gives (S.left source.old) (S.left source.new)
         (S.given source.old) (S.given source.new) bytes }
 
-    // It is too big exactly where the source gave more than `most` bytes.
+    // It is too big exactly where the source gave more than `most` bytes, and so had more.
     ensures too_big { IsErrOf result ReadFault.TooBig → S.given source.old + most < S.given source.new }
+    ensures had_more { IsErrOf result ReadFault.TooBig → HasMore (S.left source.old) most }
     ensures within { (result ≢ Err ReadFault.TooBig) → S.given source.new ≤ S.given source.old + most }
 
     ensures failed { IsErrOf result ReadFault.Failed → Rose (S.faults source.old) (S.faults source.new) }

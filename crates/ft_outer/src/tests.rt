@@ -70,3 +70,17 @@ fn a_file_comes_back(rt: HostRuntime) -> Result<(), Fail> {
     assert_eq!(rt; put_all(&mut OutSink::new(rt), b"out\n"), Ok(()));
     Ok(())
 }
+
+fn crosses_threads<T: Send>(_value: &T) {}
+
+#[test]
+fn sources_and_sinks_cross_threads(rt: HostRuntime) -> Result<(), Fail> {
+    crosses_threads(&MemSource::new(Vec::new(rt.alloc()), 1, Vec::new(rt.alloc())));
+    crosses_threads(&MemSink::new(rt.alloc(), 1, 1, Vec::new(rt.alloc()))?);
+    crosses_threads(&SureSource::new(Vec::new(rt.alloc()), 1));
+    crosses_threads(&SureSink::new(rt.alloc(), 1, 1)?);
+    crosses_threads(&FileSource::new(rt, "none".to_string(rt.alloc())?));
+    crosses_threads(&FileSink::new(rt, "none".to_string(rt.alloc())?));
+    crosses_threads(&OutSink::new(rt));
+    Ok(())
+}

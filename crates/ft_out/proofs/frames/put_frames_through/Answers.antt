@@ -1,10 +1,10 @@
-use Rattle.std.proofs.Common.{take, drop, ◌∙◌}
+use Rattle.std.proofs.Common.{arith, take, drop, ◌∙◌}
 use Rattle.std.proofs.lemmas.List.{take_rest}
 use Rattle.std.proofs.lemmas.Result.{err_from_is_err_and}
 use Rattle.ft_outer.proofs.Taken.{goes_on_whole, ends_within}
 use Rattle.ft_out.specs.Wav.{sound_bytes}
 use Rattle.ft_out.proofs.Sound.{sound_bytes-piece}
-use Rattle.ft_out.proofs.frames.put_frames.Goals as goal
+use Rattle.ft_out.proofs.frames.put_frames_through.Goals as goal
 
 pub returns-in_err-put_piece-clause-front : goal.returns-in_err-put_piece-clause-front
 returns-in_err-put_piece-clause-front g c =
@@ -22,4 +22,5 @@ loop-rest-preserved g c =
       rw (take_rest rest n)
           (goes_on_whole _ _ _ (sound_bytes c.args.out.now) (sound_bytes (take n rest)) (sound_bytes (drop n rest)) so_far c.in_ok-put_piece.ensures.whole),
       c.in_ok-put_piece.ensures.cause.kept ∙ c.loop-rest.invariant.1,
+      search arith,
     )
