@@ -1,7 +1,6 @@
 -- What a run answers where its song has a fault.
 use Rattle.std.proofs.Common.{◌≡◌, ℕ, List, Option, Some, inl, inr, ◌⊎◌, refl, sym, subst}
 use Rattle.ft_outer.specs.Pieces.{GivesAll}
-use Rattle.ft_outer.proofs.Gave.{GivesAll-told}
 use Rattle.ft_xmread.specs.declared.fault.XmFault.{XmFault}
 use Rattle.ft_xmread.specs.declared.fault.XmFault.TheVariants as faults
 use Rattle.ft_xmread.specs.Song.{HasFault, IsFaultOf}
@@ -12,7 +11,9 @@ use Rattle.ft_studio.specs.Run.{refusal_of, Refuses}
 
 -- a source that is told gave all that it held
 pub told_file : (old new : Option (List ℕ)) (file bytes : List ℕ) → old ≡ Some file → GivesAll old new bytes → bytes ≡ file
-told_file old new file bytes e all = GivesAll-told file bytes new (subst (λ (held : Option (List ℕ)). GivesAll held new bytes) e all)
+told_file old new file bytes e all =
+    let told : GivesAll (Some file) new bytes = subst (λ (held : Option (List ℕ)). GivesAll held new bytes) e all in
+    told.0
 
 inside : (a b : XmFault) → statuses.Song (Xm a) ≡ statuses.Song (Xm b) → a ≡ b
 inside a b e = cc

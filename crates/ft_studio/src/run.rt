@@ -1,10 +1,8 @@
 //! A run: the words, the song, and its sound.
 
-ghost use Rattle.std.specs.Prelude.{◌≡◌, ◌≢◌, ◌+◌, ◌*◌, ◌<◌, ◌≤◌, ◌^◌, ◌↔◌, ℕ, List, length, Some, Ok, Err, IfOk, IfErr, IfSome, OnOk, IsSome, IsNone};
-ghost use Rattle.std.specs.Io.KnownBytes.{Appends, IsAtEnd};
+ghost use Rattle.std.specs.Prelude.{◌≡◌, ◌≢◌, ◌+◌, ◌<◌, ◌≤◌, ◌^◌, ◌↔◌, ℕ, List, [], length, Some, IfSome, IsSome, IsNone};
+ghost use Rattle.std.specs.Io.KnownBytes.{Appends};
 ghost use Rattle.ft_types.specs.declared.module.Module.{Module as Song};
-ghost use Rattle.ft_types.specs.Valid.{IsValid};
-ghost use Rattle.ft_types.specs.Plain.{IsPlain};
 ghost use Rattle.ft_outer.specs.Counts.{Rose};
 ghost use Rattle.ft_outer.specs.Pieces.{TakesFront};
 ghost use Rattle.ft_xmread.specs.declared.fault.XmFault.{XmFault as Fault};
@@ -59,7 +57,7 @@ pub fn run_plain<S: Source, W: Sink, L: Sink>(
     ensures done { result ≡ Status.Done → (bytes : List ℕ) × IsOutput words.now (S.left song.old) bytes
         × Appends (W.held wav.old) (W.held wav.new) bytes }
     ensures done_counts { result ≡ Status.Done → (S.faults song.new ≡ S.faults song.old) × (W.faults wav.new ≡ W.faults wav.old) }
-    ensures whole_song { (IsBeforePlay result → ⊥) → IsAtEnd (S.left song.new) }
+    ensures whole_song { (IsBeforePlay result → ⊥) → IfSome (S.left song.old) (λ _. S.left song.new ≡ Some []) }
 
     // A write fault is counted, and what was taken is a front of the output.
     ensures wav_write { result ≡ Status.WavWrite → Rose (W.faults wav.old) (W.faults wav.new) }

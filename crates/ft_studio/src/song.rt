@@ -1,7 +1,6 @@
 //! Reading a song from its source.
 
-ghost use Rattle.std.specs.Prelude.{◌≡◌, ◌≢◌, ◌+◌, ◌<◌, ◌≤◌, ◌^◌, ◌↔◌, ℕ, List, length, Some, Err, IfOk, IfErr, IfSome, OnOk, IsErrAnd};
-ghost use Rattle.std.specs.Io.KnownBytes.{IsAtEnd};
+ghost use Rattle.std.specs.Prelude.{◌≡◌, ◌≢◌, ◌+◌, ◌<◌, ◌≤◌, ◌^◌, ◌↔◌, ℕ, List, [], length, Some, Err, IfOk, IfErr, IfSome, OnOk, IsErrAnd};
 ghost use Rattle.ft_types.specs.declared.module.Module.{Module as Song};
 ghost use Rattle.ft_types.specs.Valid.{IsValid};
 ghost use Rattle.ft_types.specs.Plain.{IsPlain};
@@ -28,7 +27,7 @@ pub fn read_song<S: Source>(alloc: Global, source: &mut S) -> Result<Module, Sta
     ensures plain { IfOk result IsPlain }
     ensures bare { IfOk result IsBare }
     ensures told { IfOk result (λ song. IfSome (S.left source.old) (λ file. IsSongOf file song)) }
-    ensures whole { OnOk result (IsAtEnd (S.left source.new)) }
+    ensures whole { OnOk result (IfSome (S.left source.old) (λ _. S.left source.new ≡ Some [])) }
     ensures counts { OnOk result (S.faults source.new ≡ S.faults source.old) }
 
     // The source failed, and counted it.
