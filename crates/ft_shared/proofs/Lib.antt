@@ -1,0 +1,4 @@
+pub mod Sums
+pub mod Readers
+pub mod Writes
+pub mod Opens
