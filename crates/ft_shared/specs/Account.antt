@@ -86,8 +86,8 @@ after_scan a gone = record a {
 }
 
 -- every slot was looked at since a scan began
-abbrev pub IsWhole : Account → Type 0
-IsWhole a = (a.begun ≡ true) × (length a.scan ≡ a.sizes.readers + 2)
+abbrev pub IsWhole : Sizes → Account → Type 0
+IsWhole z a = (a.begun ≡ true) × (length a.scan ≡ z.readers + 2)
 
 -- the leavers of slot k, and so its start, go to 0
 abbrev pub after_clear : Account → ℕ → Account

@@ -28,4 +28,4 @@ pub record IsWriterPass (w : WriterInside) : Type 0 where
   pub slots : (account_of w.place.me.0).slots ≡ w.slots
   pub deep : length w.slots ≡ 10
   -- a whole scan found at most as many slots held as there are readers
-  pub whole : IsWhole (account_of w.place.me.0) → upto (marks (account_of w.place.me.0)) (w.readers + 2) ≤ w.readers
+  pub whole : IsWhole (account_of w.place.me.0).sizes (account_of w.place.me.0) → upto (marks (account_of w.place.me.0)) (w.readers + 2) ≤ w.readers

@@ -42,10 +42,10 @@ abbrev pub note_leave : Notes → Notes
 note_leave r = record r { held = None }
 
 -- A publish: it chose a slot that was found free, and kept how many passes had taken the version before
-pub record Publishes (old new : Account) (root : ℕ) : Type 0 where
+pub record Publishes (z : Sizes) (old new : Account) (root : ℕ) : Type 0 where
   pub slot : ℕ
   pub count : ℕ
-  pub inside : (slot < old.sizes.readers + 2) × (slot ≢ old.slot)
+  pub inside : (slot < z.readers + 2) × (slot ≢ old.slot)
   pub free : (slot_at old slot).free ≡ true
-  pub few : count ≤ old.sizes.readers
+  pub few : count ≤ z.readers
   pub made : new ≡ after_publish (after_clear old slot) slot root count

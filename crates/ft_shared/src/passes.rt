@@ -31,6 +31,7 @@ impl ReaderPasses {
     /// memory is taken.
     pub fn next(&mut self) -> Option<ReaderPass>
         ensures given { MatchOption result ((self.old ≡ []) × (self.new ≡ [])) (λ p. self.old ≡ self.new ++ p ∷ []) }
+        ensures fresh { (o : Origin) (n : ℕ) → self.old ≡ dealt o (n + 1) → IsSomeAnd result (λ p. p ≡ fresh_pass o n) × (self.new ≡ dealt o n) }
     {
         self.row.pop()
     }

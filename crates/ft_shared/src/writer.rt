@@ -97,11 +97,11 @@ impl Shared {
     /// A whole scan always leaves a free slot, so there is no answer for its want.
     pub fn publish(&self, pass: &mut WriterPass, root: u16) -> u32
         requires same { pass.old.origin ≡ self.now }
-        requires whole { IsWhole pass.old.account }
+        requires whole { IsWhole self.now.sizes pass.old.account }
         requires room { pass.old.account.version < 4294967295 }
         ensures next { result ≡ pass.old.account.version + 1 }
         ensures origin { pass.new.origin ≡ pass.old.origin }
-        ensures published { Publishes pass.old.account pass.new.account root }
+        ensures published { Publishes self.now.sizes pass.old.account pass.new.account root }
         ensures history { pass.new.account.history ≡ pass.old.account.history ++ record { version = result; root = root; pool = pass.old.account.pool } ∷ [] }
     {
         let chosen = first_free(&pass.slots, pass.readers + 2);

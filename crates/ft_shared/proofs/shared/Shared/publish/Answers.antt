@@ -1,6 +1,7 @@
 use Rattle.std.proofs.Common.{rules, ap, ◌∙◌, ◌≡◌, ◌≢◌, ◌<◌, ◌≤◌, ◌+◌, ◌*◌, ◌%◌, ℕ, true, false, List, length, set, slice_index_or, get_or, subst, sym, refl, arith, get_or-set_same, length-set, []}
 use mathlib.Core.Option.{none}
 use Rattle.atomic_table.specs.Table.{Allows, step}
+use Rattle.ft_shared.specs.declared.law.Sizes.{Sizes}
 use Rattle.ft_shared.specs.declared.law.Slot.{Slot}
 use Rattle.ft_shared.specs.declared.law.Account.{Account}
 use Rattle.ft_shared.specs.declared.law.View.TheVariants.{Writer}
@@ -8,7 +9,7 @@ use Rattle.ft_shared.specs.Layout.{current_word}
 use Rattle.ft_shared.specs.Account.{account_of, slot_at, no_slot, after_clear, after_publish, IsWhole}
 use Rattle.ft_shared.specs.Plays.{published}
 use Rattle.ft_shared.specs.Register.{Registered}
-use Rattle.ft_shared.proofs.Writes.{clears, publishes, a_free_slot, slots_published, seat_published, seated}
+use Rattle.ft_shared.proofs.Publish.{clears, publishes, a_free_slot, slots_published, seat_published, seated}
 use Rattle.ft_shared.proofs.shared.Shared.publish.Goals as goal
 
 no : true ≡ false → ⊥
@@ -18,7 +19,8 @@ pub first_free-chosen-requires-clause-some : goal.first_free-chosen-requires-cla
 first_free-chosen-requires-clause-some c =
     let w = c.pass.inside in
     let a = account_of w.place.me.0 in
-    let whole = subst (λ (b : Account). IsWhole b) (sym (ap (λ b. b.account) c.pass.view_is)) c.requires.whole in
+    let sizes : a.sizes ≡ c.args.self.now.sizes = ap (λ b. b.origin.sizes) c.pass.view_is ∙ ap (λ o. o.sizes) c.requires.same in
+    let whole = subst (λ (z : Sizes × Account). IsWhole z.0 z.1) (λ i. (sym sizes i, sym (ap (λ b. b.account) c.pass.view_is) i)) c.requires.whole in
     let found = a_free_slot a w.readers (c.pass.invariant.whole whole) in
     let l = found.1 in
     (found.0, omega arith, ap (λ (ss : List Slot). (slice_index_or ss found.0 no_slot).free) (sym c.pass.invariant.slots) ∙ found.2)
@@ -120,7 +122,7 @@ returns-clause-published c =
     let word : (w.version + 1) * 4294967296 + k * 16777216 + c.args.root * 256 ≡ current_word (w.version + 1) k c.args.root 0 = omega arith in
     let done = seat_published a mid fin k c.args.root _ _ (w.version + 1) now c.swap-found.ensures.2.0 word (omega arith) c.ranges.root.fits in
     let was : a ≡ c.args.pass.now.account = ap (λ b. b.account) c.pass.view_is in
-    let sizes : a.sizes.readers ≡ c.args.pass.now.account.sizes.readers = ap (λ (z : Account). z.sizes.readers) was in
+    let sizes : a.sizes.readers ≡ c.args.self.now.sizes.readers = ap (λ b. b.origin.sizes.readers) c.pass.view_is ∙ ap (λ o. o.sizes.readers) c.requires.same in
     let few : c.swap-found.result % 256 ≤ (account_of mid.0).sizes.readers = c.swap-found.ensures.2.1 in
     let same : (account_of mid.0).sizes.readers ≡ a.sizes.readers = ap (λ m. (account_of m.0).sizes.readers) now in
     record {
