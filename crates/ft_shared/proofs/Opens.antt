@@ -1,7 +1,7 @@
 -- The words that a register opens with meet the rule.
-use Rattle.std.proofs.Common.{zero, suc, true, false, ◌≡◌, ◌≢◌, ℕ, ◌+◌, ◌-◌, ◌*◌, ◌<◌, ◌≤◌, List, [], ◌∷◌, ◌++◌, length, drop, replicate, get_or, sym, refl, ap, ◌∙◌, subst, arith, All, slice_index_or, length-append}
-use Rattle.std.proofs.lemmas.List.{get_or-drop, length-drop, get_or_append_left, get_or-replicate}
-use mathlib.Core.Option.{none, some, some-injective, some-ne-none}
+use Rattle.std.proofs.Common.{zero, suc, true, false, ◌≡◌, ℕ, ◌+◌, ◌-◌, ◌*◌, ◌<◌, ◌≤◌, List, [], ◌∷◌, ◌++◌, length, drop, replicate, get_or, sym, refl, ap, ◌∙◌, subst, arith, length-append}
+use Rattle.std.proofs.lemmas.List.{get_or-drop, length-drop, get_or_append_left}
+use mathlib.Core.Option.{some, some-injective, some-ne-none}
 use lib.ListN.{get_elem?, length-replicate}
 use Rattle.atomic_table.specs.Table.{opening}
 use Rattle.ft_shared.specs.declared.law.Opening.{Opening}
@@ -10,10 +10,9 @@ use Rattle.ft_shared.specs.declared.law.Slot.{Slot}
 use Rattle.ft_shared.specs.declared.law.Account.{Account}
 use Rattle.ft_shared.specs.declared.law.View.{View}
 use Rattle.ft_shared.specs.declared.law.View.TheVariants.{Writer}
-use Rattle.ft_shared.specs.Layout.{current_word, pool_at, word_count}
-use Rattle.ft_shared.specs.History.{IsHistory}
+use Rattle.ft_shared.specs.Layout.{current_word, pool_at}
 use Rattle.ft_shared.specs.Account.{slot_at, no_slot, first_account, pool_of}
-use Rattle.ft_shared.specs.Register.{Stands, Fits, Registered}
+use Rattle.ft_shared.specs.Register.{Fits, Registered}
 use Rattle.ft_shared.proofs.Sums.{bit-zero}
 
 true-false : true ≡ false → ⊥

@@ -1,12 +1,11 @@
 -- The two steps of a publish keep the rule, and a whole scan leaves a free slot.
-use Rattle.std.proofs.Common.{zero, suc, Bool, true, false, cond, ltb, eqb, false-eqb, true-eqb, lt-ltb, le-ltb, eq-eqb, ne_eqb, ◌==◌, ◌≡◌, ◌≢◌, ◌⊎◌, inl, inr, ℕ, ◌+◌, ◌*◌, ◌<◌, ◌≤◌, List, [], ◌∷◌, ◌++◌, length, get_or, set, sym, refl, ap, ◌∙◌, subst, ⊎_elim, arith, Option, Some, None, All, slice_index_or, length-set, length-append, get_or-set_other, get_or-set_same}
+use Rattle.std.proofs.Common.{zero, suc, Bool, true, false, ltb, eqb, eq-eqb, ne_eqb, ◌≡◌, ◌≢◌, ◌⊎◌, inl, inr, ℕ, ◌+◌, ◌*◌, ◌<◌, ◌≤◌, List, [], ◌∷◌, ◌++◌, length, get_or, set, sym, refl, ap, ◌∙◌, subst, ⊎_elim, arith, Option, Some, slice_index_or, length-set, length-append, get_or-set_other, get_or-set_same}
 use mathlib.Core.Option.{none, some, some-injective, some-ne-none}
 use mathlib.Core.Logic.{dite}
 use native.Mathlib.Decide.{ℕ_discrete}
 use lib.ListN.{get_elem?}
-use lib.Seq.{set-get_or}
-use Rattle.atomic_table.specs.Table.{step, keeps, Allows, Splits}
-use Rattle.atomic_table.proofs.Lists.{at_set, at_snoc, at_longer, at_last}
+use Rattle.atomic_table.specs.Table.{step, keeps, Allows}
+use Rattle.atomic_table.proofs.Lists.{at_set, at_longer, at_last}
 use Rattle.ft_shared.specs.declared.law.Sizes.{Sizes}
 use Rattle.ft_shared.specs.declared.law.Opening.{Opening}
 use Rattle.ft_shared.specs.declared.law.PlacedVersion.{PlacedVersion}
@@ -17,13 +16,13 @@ use Rattle.ft_shared.specs.declared.law.Account.{Account}
 use Rattle.ft_shared.specs.declared.law.View.{View}
 use Rattle.ft_shared.specs.declared.law.View.TheVariants.{Spent, Reader, Writer}
 use Rattle.ft_shared.specs.Layout.{current_word, slot_in, root_in, count_in}
-use Rattle.ft_shared.specs.Counts.{bit, total, upto, passes, one, numbered, grips, grip_of, holding}
-use Rattle.ft_shared.specs.History.{HasVersion, HasTaken, Agrees, IsHistory}
-use Rattle.ft_shared.specs.Account.{slot_at, no_slot, account_of, new_notes, is_free, answer_of, after_begin, after_scan, after_clear, after_publish}
+use Rattle.ft_shared.specs.Counts.{bit, upto, passes, one, numbered, grips, grip_of, holding}
+use Rattle.ft_shared.specs.History.{Agrees, IsHistory}
+use Rattle.ft_shared.specs.Account.{slot_at, no_slot, account_of, after_clear, after_publish}
 use Rattle.ft_shared.specs.Register.{Words, Sat, Stands, Fits, amount, scan_count, marks, Registered}
-use Rattle.ft_shared.specs.Plays.{after_give, given_pass, began, scanned, cleared, published}
-use Rattle.ft_shared.proofs.Sums.{total-set, total-append, at-le, index-le, set-keeps, slot-of, root-of, count-of, numbers-more, amount-le, amount-new, amount-here, amount-scan, amount-met, ltb-next, upto-le, holding-upto, all-but-one}
-use Rattle.ft_shared.proofs.Readers.{count-le, word-there, fewer}
+use Rattle.ft_shared.specs.Plays.{cleared, published}
+use Rattle.ft_shared.proofs.Sums.{at-le, index-le, set-keeps, slot-of, root-of, count-of, amount-le, upto-le, all-but-one}
+use Rattle.ft_shared.proofs.Readers.{count-le, word-there}
 use Rattle.ft_shared.proofs.Writes.{stands_still, seats_still, sum_still, true-false}
 
 module _ (key : Opening) where

@@ -1,5 +1,5 @@
 -- A reader's steps keep the rule.
-use Rattle.std.proofs.Common.{zero, suc, true, false, ltb, false-eqb, ◌≡◌, ◌≢◌, ℕ, ◌+◌, ◌*◌, ◌%◌, ◌^◌, ◌<◌, ◌≤◌, eqb, List, [], ◌∷◌, ◌++◌, length, get_or, set, sym, refl, ap, ◌∙◌, subst, ⊎_elim, arith, Option, Some, None, All, IsSomeAnd, length-set, get_or-set_other, get_or-set_same, eq-eqb, ne_eqb}
+use Rattle.std.proofs.Common.{true, ltb, false-eqb, ◌≡◌, ◌≢◌, ℕ, ◌+◌, ◌*◌, ◌%◌, ◌^◌, ◌<◌, ◌≤◌, eqb, List, [], ◌∷◌, length, get_or, set, sym, refl, ap, ◌∙◌, subst, ⊎_elim, arith, Option, Some, None, IsSomeAnd, length-set, get_or-set_other, get_or-set_same, eq-eqb, ne_eqb}
 use Rattle.std.proofs.lemmas.List.Elements.{All-append}
 use mathlib.Core.Option.{none, some}
 use mathlib.Core.Logic.{dite}
@@ -13,11 +13,11 @@ use Rattle.ft_shared.specs.declared.law.Taken.{Taken}
 use Rattle.ft_shared.specs.declared.law.Hold.{Hold}
 use Rattle.ft_shared.specs.declared.law.Account.{Account}
 use Rattle.ft_shared.specs.declared.law.View.{View}
-use Rattle.ft_shared.specs.declared.law.View.TheVariants.{Spent, Reader, Writer}
+use Rattle.ft_shared.specs.declared.law.View.TheVariants.{Reader}
 use Rattle.ft_shared.specs.Layout.{current_word, version_in, slot_in, root_in}
-use Rattle.ft_shared.specs.Counts.{bit, total, upto, passes, one, numbered, grips, grip_of, holding}
+use Rattle.ft_shared.specs.Counts.{bit, upto, passes, one, numbered, grips, grip_of, holding}
 use Rattle.ft_shared.specs.History.{HasVersion, HasTaken}
-use Rattle.ft_shared.specs.Account.{slot_at, no_slot, hold_of}
+use Rattle.ft_shared.specs.Account.{slot_at, hold_of}
 use Rattle.ft_shared.specs.Register.{Words, Sat, Stands, Fits, scan_count, Registered}
 use Rattle.ft_shared.specs.Plays.{after_look, after_take, after_leave, looked, took, left}
 use Rattle.ft_shared.proofs.Sums.{total-set, total-le, all_one, passes-le, version-of, slot-of, root-of, amount-le, upto-le}

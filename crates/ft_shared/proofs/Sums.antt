@@ -1,16 +1,15 @@
 -- Sums over the views and over the slots, and the numbers in the word CURRENT.
-use Rattle.std.proofs.Common.{◌≡◌, ◌≢◌, ℕ, zero, suc, ◌+◌, ◌<◌, ◌≤◌, ◌==◌, Bool, true, false, cond, List, [], ◌∷◌, ◌++◌, length, get_or, set, sym, refl, ap, ◌∙◌, arith, Option, Some, None, All, eq-eqb, ne_eqb, eqb, ltb, lt-ltb, le-ltb}
+use Rattle.std.proofs.Common.{◌≡◌, ◌≢◌, ℕ, zero, suc, ◌+◌, ◌<◌, ◌≤◌, ◌==◌, Bool, true, false, List, [], ◌∷◌, ◌++◌, length, get_or, set, sym, refl, ap, arith, Option, Some, None, All, eq-eqb, ne_eqb, ltb, lt-ltb, le-ltb}
 use Rattle.std.proofs.lemmas.Bool.Decides.{nat_tests}
 use mathlib.Core.Option.{some, some-injective, some-ne-none}
 use mathlib.Core.Logic.{dite}
 use native.Mathlib.Decide.{ℕ_discrete}
 use lib.ListN.{get_elem?}
 use Rattle.ft_shared.specs.declared.law.Taken.{Taken}
-use Rattle.ft_shared.specs.declared.law.Hold.{Hold}
 use Rattle.ft_shared.specs.declared.law.View.{View}
 use Rattle.ft_shared.specs.declared.law.View.TheVariants.{Spent, Reader, Writer}
 use Rattle.ft_shared.specs.Layout.{current_word, version_in, slot_in, root_in, count_in}
-use Rattle.ft_shared.specs.Counts.{bit, total, upto, passes, one, numbered, grips, grip_of, holding}
+use Rattle.ft_shared.specs.Counts.{bit, total, upto, passes, one, grips, grip_of, holding}
 use Rattle.ft_shared.specs.Register.{amount}
 
 module _ {A : Type 0} where

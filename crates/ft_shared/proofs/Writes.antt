@@ -1,12 +1,12 @@
 -- The writer's steps keep the rule.
-use Rattle.std.proofs.Common.{zero, suc, Bool, true, false, cond, ltb, eqb, false-eqb, true-eqb, lt-ltb, le-ltb, eq-eqb, ne_eqb, ◌==◌, ◌≡◌, ◌≢◌, ◌⊎◌, inl, inr, ℕ, ◌+◌, ◌*◌, ◌<◌, ◌≤◌, List, [], ◌∷◌, ◌++◌, length, get_or, set, sym, refl, ap, ◌∙◌, subst, ⊎_elim, arith, Option, Some, None, All, slice_index_or, length-set, length-append, get_or-set_other, get_or-set_same}
-use mathlib.Core.Option.{none, some, some-injective, some-ne-none}
+use Rattle.std.proofs.Common.{zero, suc, Bool, true, false, cond, ltb, eqb, false-eqb, true-eqb, lt-ltb, le-ltb, eq-eqb, ◌==◌, ◌≡◌, ◌≢◌, ℕ, ◌+◌, ◌<◌, ◌≤◌, List, [], ◌∷◌, ◌++◌, length, get_or, set, sym, refl, ap, ◌∙◌, subst, ⊎_elim, arith, Some, None, All, slice_index_or, length-set, length-append, get_or-set_other, get_or-set_same}
+use mathlib.Core.Option.{none, some}
 use mathlib.Core.Logic.{dite}
 use native.Mathlib.Decide.{ℕ_discrete}
 use lib.ListN.{get_elem?}
 use lib.Seq.{set-get_or}
 use Rattle.atomic_table.specs.Table.{step, keeps, Allows, Splits}
-use Rattle.atomic_table.proofs.Lists.{at_set, at_snoc, at_longer, at_last}
+use Rattle.atomic_table.proofs.Lists.{at_set, at_snoc}
 use Rattle.ft_shared.specs.declared.law.Sizes.{Sizes}
 use Rattle.ft_shared.specs.declared.law.Opening.{Opening}
 use Rattle.ft_shared.specs.declared.law.PlacedVersion.{PlacedVersion}
@@ -16,14 +16,14 @@ use Rattle.ft_shared.specs.declared.law.Slot.{Slot}
 use Rattle.ft_shared.specs.declared.law.Account.{Account}
 use Rattle.ft_shared.specs.declared.law.View.{View}
 use Rattle.ft_shared.specs.declared.law.View.TheVariants.{Spent, Reader, Writer}
-use Rattle.ft_shared.specs.Layout.{current_word, slot_in, root_in, count_in}
-use Rattle.ft_shared.specs.Counts.{bit, total, upto, passes, one, numbered, grips, grip_of, holding}
-use Rattle.ft_shared.specs.History.{HasVersion, HasTaken, Agrees, IsHistory}
-use Rattle.ft_shared.specs.Account.{slot_at, no_slot, account_of, new_notes, is_free, answer_of, after_begin, after_scan, after_clear, after_publish}
+use Rattle.ft_shared.specs.Layout.{current_word}
+use Rattle.ft_shared.specs.Counts.{total, upto, passes, one, numbered, grip_of, holding}
+use Rattle.ft_shared.specs.History.{HasVersion, HasTaken, Agrees}
+use Rattle.ft_shared.specs.Account.{slot_at, no_slot, account_of, new_notes, is_free, answer_of, after_begin, after_scan}
 use Rattle.ft_shared.specs.Register.{Words, Sat, Stands, Fits, amount, scan_count, marks, Registered}
-use Rattle.ft_shared.specs.Plays.{after_give, given_pass, began, scanned, cleared, published}
-use Rattle.ft_shared.proofs.Sums.{total-set, total-append, at-le, index-le, set-keeps, slot-of, root-of, count-of, numbers-more, amount-le, amount-new, amount-here, amount-scan, amount-met, ltb-next, upto-le, holding-upto, all-but-one}
-use Rattle.ft_shared.proofs.Readers.{count-le, word-there, fewer}
+use Rattle.ft_shared.specs.Plays.{after_give, given_pass, began, scanned}
+use Rattle.ft_shared.proofs.Sums.{total-set, total-append, set-keeps, numbers-more, amount-le, amount-new, amount-here, amount-scan, amount-met, ltb-next, upto-le, holding-upto}
+use Rattle.ft_shared.proofs.Readers.{fewer}
 
 none_some : {A : Type 0} (x : A) → None ≡ Some x → ⊥
 none_some x e = cc

@@ -7,8 +7,8 @@ use Rattle.ft_shared.specs.declared.law.Hold.{Hold}
 use Rattle.ft_shared.specs.declared.law.Slot.{Slot}
 use Rattle.ft_shared.specs.declared.law.Account.{Account}
 use Rattle.ft_shared.specs.declared.law.View.{View}
-use Rattle.ft_shared.specs.declared.law.View.TheVariants.{Spent, Reader, Writer}
-use Rattle.ft_shared.specs.Layout.{pool_at, count_in}
+use Rattle.ft_shared.specs.declared.law.View.TheVariants.{Reader, Writer}
+use Rattle.ft_shared.specs.Layout.{pool_at}
 
 abbrev pub no_slot : Slot
 no_slot = record { version = 0; start = 0; free = false }

@@ -1,5 +1,5 @@
 -- What the passes are, from their fields.
-use Rattle.std.specs.Prelude.{◌≡◌, ◌+◌, ◌≤◌, ◌<◌, [], true, length}
+use Rattle.std.specs.Prelude.{◌≡◌, ◌+◌, ◌≤◌, ◌<◌, [], length}
 use Rattle.ft_shared.specs.declared.law.View.TheVariants.{Reader, Writer}
 use Rattle.ft_shared.specs.declared.reader.ReaderPass.TheInside.{Inside as ReaderInside}
 use Rattle.ft_shared.specs.declared.writer.WriterPass.TheInside.{Inside as WriterInside}

@@ -1,4 +1,4 @@
-use Rattle.std.proofs.Common.{◌≡◌, ◌+◌, ◌≤◌, ℕ}
+use Rattle.std.proofs.Common.{◌≡◌, ◌+◌, ℕ}
 use Rattle.ft_shared.specs.Pass.{dealt}
 use Rattle.ft_shared.proofs.tests.followers_of.Given as goal
 

@@ -1,4 +1,4 @@
-use Rattle.std.proofs.Common.{rules, ap, ◌∙◌, ◌≡◌, ℕ, List, drop, ◌++◌, sym}
+use Rattle.std.proofs.Common.{rules, ap, ◌∙◌, ◌≡◌, ℕ, List, drop, sym}
 use Rattle.ft_shared.specs.declared.law.Opening.{Opening}
 use Rattle.ft_shared.specs.declared.law.Account.{Account}
 use Rattle.ft_shared.specs.Layout.{pool_at}

@@ -1,4 +1,4 @@
-use Rattle.std.proofs.Common.{rules, ap, subst, sym}
+use Rattle.std.proofs.Common.{rules, ap}
 use Rattle.ft_shared.proofs.Writes.{gives_one}
 use Rattle.ft_shared.proofs.shared.Shared.give.Goals as goal
 
