@@ -153,6 +153,10 @@ fn copy_often(alloc: Global, rounds: u32) -> Result<()> {
     Ok(())
 }
 
+fn run(alloc: Global, kind: Kind, rounds: u32) -> Result<()> {
+    measure::<Brand>(alloc, Blank::new(1), kind, rounds)
+}
+
 fn kind_of(word: &str) -> Option<Kind> {
     match word {
         "look" => Some(Kind::Look),
@@ -175,7 +179,7 @@ fn main(rt: HostRuntime) -> Result<()> {
             Kind::Open,
             Kind::Copy,
         ] {
-            measure::<Brand>(rt.alloc(), Blank::new(1), kind, 1)?;
+            run(rt.alloc(), kind, 1)?;
         }
         return Ok(());
     };
@@ -186,5 +190,5 @@ fn main(rt: HostRuntime) -> Result<()> {
         Some(number) => number.as_str().parse()?,
         None => 1,
     };
-    measure::<Brand>(rt.alloc(), Blank::new(1), kind, rounds)
+    run(rt.alloc(), kind, rounds)
 }
