@@ -19,7 +19,7 @@ use Rattle.ft_shared.specs.Layout.{current_word, slot_in, root_in, count_in}
 use Rattle.ft_shared.specs.Counts.{bit, upto, passes, one, numbered, grips, grip_of, holding}
 use Rattle.ft_shared.specs.History.{Agrees, IsHistory}
 use Rattle.ft_shared.specs.Account.{slot_at, no_slot, account_of, after_clear, after_publish}
-use Rattle.ft_shared.specs.Register.{Words, Sat, Stands, Fits, amount, scan_count, marks, Registered}
+use Rattle.ft_shared.specs.Register.{Words, Seated, Stands, Fits, amount, scan_count, marks, Registered}
 use Rattle.ft_shared.specs.Plays.{cleared, published}
 use Rattle.ft_shared.proofs.Sums.{at-le, index-le, set-keeps, slot-of, root-of, count-of, amount-le, upto-le, all-but-one}
 use Rattle.ft_shared.proofs.Readers.{count-le, word-there}
@@ -75,7 +75,7 @@ module _ (key : Opening) where
         each_seat = seats_still key s q id writes b refl versions refl;
       }
 
-  pub clears : (slots id k : ℕ) (me : Sat) → me.0 ≡ Writer (account_of me.0) → k < key.sizes.readers + 2 → (slot_at (account_of me.0) k).free ≡ true
+  pub clears : (slots id k : ℕ) (me : Seated) → me.0 ≡ Writer (account_of me.0) → k < key.sizes.readers + 2 → (slot_at (account_of me.0) k).free ≡ true
       → Allows (Registered key) slots id me (k + 1) (λ _. 0) (λ _. cleared (step slots (k + 1) 0 0 none) me 0)
   clears slots id k me is inside free s q deep at small =
       let e : Account = account_of me.0 in
@@ -229,7 +229,7 @@ module _ (key : Opening) where
       rest-of j (Reader h) ne z f = stands_next q.account k root (count_in (get_or s.words 0 0)) h z f
       rest-of j (Writer e) ne z f = absurd (ne (f.1 ∙ sym writes))
 
-  pub publishes : (slots id k root : ℕ) (me : Sat) → me.0 ≡ Writer (account_of me.0) → k < key.sizes.readers + 2 → key.sizes.readers ≤ 8 → (slot_at (account_of me.0) k).free ≡ true
+  pub publishes : (slots id k root : ℕ) (me : Seated) → me.0 ≡ Writer (account_of me.0) → k < key.sizes.readers + 2 → key.sizes.readers ≤ 8 → (slot_at (account_of me.0) k).free ≡ true
       → (slot_at (account_of me.0) k).start ≡ 0 → (account_of me.0).version + 1 < 4294967296 → root < 65536
       → Allows (Registered key) slots id me 0 (λ _. current_word ((account_of me.0).version + 1) k root 0) (published (step slots 0 (current_word ((account_of me.0).version + 1) k root 0) 0 none) me)
   publishes slots id k root me is inside few free bare room fits s q deep at small =
@@ -289,7 +289,7 @@ slots_published a k root n apart =
     set-forget a.slots k a.slot bare old new ∙ ap (λ (z : Slot). set (set a.slots a.slot (record z { start = n })) k new) (get_or-set_other a.slots k a.slot bare no_slot apart)
 
 -- the seat after both steps of a publish
-pub seat_published : (a : Account) (mid fin : Sat) (k root n word version : ℕ) → mid ≡ (Writer (after_clear a k), [])
+pub seat_published : (a : Account) (mid fin : Seated) (k root n word version : ℕ) → mid ≡ (Writer (after_clear a k), [])
     → fin ≡ (Writer (after_publish (account_of mid.0) (slot_in word) (root_in word) n), mid.1) → word ≡ current_word version k root 0 → k < 256 → root < 65536
     → fin ≡ (Writer (after_publish (after_clear a k) k root n), [])
 seat_published a mid fin k root n word version was now is few fits =
@@ -297,5 +297,5 @@ seat_published a mid fin k root n word version was now is few fits =
     let roots : root_in word ≡ root = ap root_in is ∙ root-of version k root 0 few fits (omega arith) in
     now ∙ (λ i. (Writer (after_publish (account_of (was i).0) (slot i) (roots i) n), (was i).1))
 
-pub seated : (m : Sat) (a : Account) → m ≡ (Writer a, []) → m ≡ (Writer (account_of m.0), [])
-seated m a e = e ∙ ap (λ (z : Account). (Writer z, [])) (sym (ap (λ (n : Sat). account_of n.0) e))
+pub seated : (m : Seated) (a : Account) → m ≡ (Writer a, []) → m ≡ (Writer (account_of m.0), [])
+seated m a e = e ∙ ap (λ (z : Account). (Writer z, [])) (sym (ap (λ (n : Seated). account_of n.0) e))

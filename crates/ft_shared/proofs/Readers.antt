@@ -18,7 +18,7 @@ use Rattle.ft_shared.specs.Layout.{current_word, version_in, slot_in, root_in}
 use Rattle.ft_shared.specs.Counts.{bit, upto, passes, one, numbered, grips, grip_of, holding}
 use Rattle.ft_shared.specs.History.{HasVersion, HasTaken}
 use Rattle.ft_shared.specs.Account.{slot_at, hold_of}
-use Rattle.ft_shared.specs.Register.{Words, Sat, Stands, Fits, scan_count, Registered}
+use Rattle.ft_shared.specs.Register.{Words, Seated, Stands, Fits, scan_count, Registered}
 use Rattle.ft_shared.specs.Plays.{after_look, after_take, after_leave, looked, took, left}
 use Rattle.ft_shared.proofs.Sums.{total-set, total-le, all_one, passes-le, version-of, slot-of, root-of, amount-le, upto-le}
 
@@ -84,7 +84,7 @@ module _ (key : Opening) where
         (λ (t : (j ≢ id) × (get_elem? s.views j ≡ some v)). q.each_seat j v t.1) (at_set s.views id j (Reader h') v e);
   }
 
-  pub looks : (slots id : ℕ) (me : Sat) → me.0 ≡ Reader (hold_of me.0) → Allows (Registered key) slots id me 0 (λ n. n) (looked (step slots 0 0 0 none) me)
+  pub looks : (slots id : ℕ) (me : Seated) → me.0 ≡ Reader (hold_of me.0) → Allows (Registered key) slots id me 0 (λ n. n) (looked (step slots 0 0 0 none) me)
   looks slots id me is s q deep at small =
       let h : Hold = hold_of me.0 in
       let at' : get_elem? s.views id ≡ some (Reader h) = at ∙ ap some is in
@@ -118,7 +118,7 @@ module _ (key : Opening) where
         (refl, omega arith),
       )
 
-  pub takes : (slots id : ℕ) (me : Sat) → me.0 ≡ Reader (hold_of me.0) → (hold_of me.0).notes.held ≡ None → Allows (Registered key) slots id me 0 (λ n. (n + 1) % 2 ^ 64) (took (step slots 0 1 0 none) me)
+  pub takes : (slots id : ℕ) (me : Seated) → me.0 ≡ Reader (hold_of me.0) → (hold_of me.0).notes.held ≡ None → Allows (Registered key) slots id me 0 (λ n. (n + 1) % 2 ^ 64) (took (step slots 0 1 0 none) me)
   takes slots id me is out s q deep at small =
       let h : Hold = hold_of me.0 in
       let at' : get_elem? s.views id ≡ some (Reader h) = at ∙ ap some is in
@@ -168,7 +168,7 @@ module _ (key : Opening) where
         (refl, omega arith, (let n : h.notes.sizes.readers ≡ key.sizes.readers = ap (λ z. z.readers) mine.told in omega arith)),
       )
 
-  leaves_one : (slots id : ℕ) (me : Sat) (t : Taken) (v : ℕ) → me.0 ≡ Reader (hold_of me.0) → (hold_of me.0).notes.held ≡ Some t → (hold_of me.0).notes.latest ≡ Some v → t.version < v
+  leaves_one : (slots id : ℕ) (me : Seated) (t : Taken) (v : ℕ) → me.0 ≡ Reader (hold_of me.0) → (hold_of me.0).notes.held ≡ Some t → (hold_of me.0).notes.latest ≡ Some v → t.version < v
       → Allows (Registered key) slots id me ((hold_of me.0).slot + 1) (λ n. (n + 1) % 2 ^ 64) (left (step slots ((hold_of me.0).slot + 1) 1 0 none) me)
   leaves_one slots id me t v is has saw newer s q deep at small =
       let h : Hold = hold_of me.0 in
@@ -216,7 +216,7 @@ module _ (key : Opening) where
         refl,
       )
 
-  pub leaves : (slots id : ℕ) (me : Sat) → me.0 ≡ Reader (hold_of me.0) → (o : Option Taken) (l : Option ℕ) → (hold_of me.0).notes.held ≡ o → (hold_of me.0).notes.latest ≡ l
+  pub leaves : (slots id : ℕ) (me : Seated) → me.0 ≡ Reader (hold_of me.0) → (o : Option Taken) (l : Option ℕ) → (hold_of me.0).notes.held ≡ o → (hold_of me.0).notes.latest ≡ l
       → IsSomeAnd o (λ t. IsSomeAnd l (λ v. t.version < v))
       → Allows (Registered key) slots id me ((hold_of me.0).slot + 1) (λ n. (n + 1) % 2 ^ 64) (left (step slots ((hold_of me.0).slot + 1) 1 0 none) me)
   leaves slots id me is None l has saw newer = absurd newer

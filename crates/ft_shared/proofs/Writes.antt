@@ -20,7 +20,7 @@ use Rattle.ft_shared.specs.Layout.{current_word}
 use Rattle.ft_shared.specs.Counts.{total, upto, passes, one, numbered, grip_of, holding}
 use Rattle.ft_shared.specs.History.{HasVersion, HasTaken, Agrees}
 use Rattle.ft_shared.specs.Account.{slot_at, no_slot, account_of, new_notes, is_free, answer_of, after_begin, after_scan}
-use Rattle.ft_shared.specs.Register.{Words, Sat, Stands, Fits, amount, scan_count, marks, Registered}
+use Rattle.ft_shared.specs.Register.{Words, Seated, Stands, Fits, amount, scan_count, marks, Registered}
 use Rattle.ft_shared.specs.Plays.{after_give, given_pass, began, scanned}
 use Rattle.ft_shared.proofs.Sums.{total-set, total-append, set-keeps, numbers-more, amount-le, amount-new, amount-here, amount-scan, amount-met, ltb-next, upto-le, holding-upto}
 use Rattle.ft_shared.proofs.Readers.{fewer}
@@ -170,7 +170,7 @@ module _ (key : Opening) where
       let z : 0 ≤ k = omega arith in
       subst (λ (m : Bool). amount (eqb k a.slot) (slot_at a k).free m (holding k s.views) ≤ holding k s.views) (sym (le-ltb k 0 z)) (amount-new (eqb k a.slot) (slot_at a k).free (holding k s.views))) in omega arith
 
-  pub begins : (slots id : ℕ) (me : Sat) → me.0 ≡ Writer (account_of me.0) → Allows (Registered key) slots id me 0 (λ n. n) (began (step slots 0 0 0 none) me)
+  pub begins : (slots id : ℕ) (me : Seated) → me.0 ≡ Writer (account_of me.0) → Allows (Registered key) slots id me 0 (λ n. n) (began (step slots 0 0 0 none) me)
   begins slots id me is s q deep at small =
       let e : Account = account_of me.0 in
       let at' : get_elem? s.views id ≡ some (Writer e) = at ∙ ap some is in
@@ -275,7 +275,7 @@ module _ (key : Opening) where
             (amount-met (eqb k a.slot) (slot_at b k).free 0 (holding k s.views))) in omega arith),
       )
 
-  pub scans : (slots id : ℕ) (me : Sat) → me.0 ≡ Writer (account_of me.0) → (account_of me.0).begun ≡ true → length (account_of me.0).scan < (account_of me.0).sizes.readers + 2
+  pub scans : (slots id : ℕ) (me : Seated) → me.0 ≡ Writer (account_of me.0) → (account_of me.0).begun ≡ true → length (account_of me.0).scan < (account_of me.0).sizes.readers + 2
       → Allows (Registered key) slots id me (length (account_of me.0).scan + 1) (λ n. n) (scanned (step slots (length (account_of me.0).scan + 1) 0 0 none) me)
   scans slots id me is begun less s q deep at small =
       let e : Account = account_of me.0 in

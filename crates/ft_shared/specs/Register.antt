@@ -18,8 +18,8 @@ use Rattle.ft_shared.specs.Account.{slot_at}
 abbrev pub Words : Type 0
 Words = State (Unit {0}) View
 
-abbrev pub Sat : Type 0
-Sat = Me (Unit {0}) View
+abbrev pub Seated : Type 0
+Seated = Me (Unit {0}) View
 
 -- What holds of each reader's pass, whether it has a seat or was settled
 pub record Stands (key : Opening) (a : Account) (h : Hold) : Type 0 where

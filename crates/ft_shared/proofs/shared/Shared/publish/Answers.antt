@@ -5,7 +5,7 @@ use Rattle.ft_shared.specs.declared.law.Sizes.{Sizes}
 use Rattle.ft_shared.specs.declared.law.Slot.{Slot}
 use Rattle.ft_shared.specs.declared.law.Account.{Account}
 use Rattle.ft_shared.specs.declared.law.View.TheVariants.{Writer}
-use Rattle.ft_shared.specs.Layout.{current_word}
+use Rattle.ft_shared.specs.Layout.{current_word, count_in}
 use Rattle.ft_shared.specs.Account.{account_of, slot_at, no_slot, after_clear, after_publish, IsWhole}
 use Rattle.ft_shared.specs.Plays.{published}
 use Rattle.ft_shared.specs.Register.{Registered}
@@ -85,7 +85,6 @@ invariant_of-pass c =
     let k = c.first_free-chosen.result in
     let chosen = c.first_free-chosen.ensures in
     let inside = chosen.0 in
-    let n = c.swap-found.result in
     let mid = c.store.new.seat.me in
     let fin = c.swap-found.new.seat.me in
     let readers = c.pass.invariant.readers in
@@ -103,7 +102,7 @@ invariant_of-pass c =
       version = ap (λ (z : Account). z.version) e ∙ ap (λ (v : ℕ). v + 1) version;
       slot = ap (λ (z : Account). z.slot) e;
       inside = inside;
-      slots = ap (λ (z : Account). z.slots) e ∙ (slots_published a k c.args.root _ apart ∙ (λ i. set (set (slots i) (slot i) (record (slice_index_or (slots i) (slot i) no_slot) { start = n % 256 })) k (record { version = version i + 1; start = 0; free = false })));
+      slots = ap (λ (z : Account). z.slots) e ∙ (slots_published a k c.args.root _ apart ∙ (λ i. set (set (slots i) (slot i) (record (slice_index_or (slots i) (slot i) no_slot) { start = count_in c.swap-found.result })) k (record { version = version i + 1; start = 0; free = false })));
       deep = length-set _ _ _ ∙ (length-set _ _ _ ∙ c.pass.invariant.deep);
       whole = λ whole. absurd (no (sym whole.0 ∙ ap (λ (z : Account). z.begun) e));
     }
@@ -123,13 +122,13 @@ returns-clause-published c =
     let done = seat_published a mid fin k c.args.root _ _ (w.version + 1) now c.swap-found.ensures.2.0 word (omega arith) c.ranges.root.fits in
     let was : a ≡ c.args.pass.now.account = ap (λ b. b.account) c.pass.view_is in
     let sizes : a.sizes.readers ≡ c.args.self.now.sizes.readers = ap (λ b. b.origin.sizes.readers) c.pass.view_is ∙ ap (λ o. o.sizes.readers) c.requires.same in
-    let few : c.swap-found.result % 256 ≤ (account_of mid.0).sizes.readers = c.swap-found.ensures.2.1 in
+    let few : count_in c.swap-found.result ≤ (account_of mid.0).sizes.readers = c.swap-found.ensures.2.1 in
     let same : (account_of mid.0).sizes.readers ≡ a.sizes.readers = ap (λ m. (account_of m.0).sizes.readers) now in
     record {
       slot = k;
-      count = c.swap-found.result % 256;
+      count = count_in c.swap-found.result;
       inside = (omega arith, λ t. (c.store.ensures.2 k refl).1 (t ∙ ap (λ (z : Account). z.slot) (sym was)));
       free = ap (λ (z : Account). (slot_at z k).free) (sym was) ∙ (ap (λ (ss : List Slot). (slice_index_or ss k no_slot).free) c.pass.invariant.slots ∙ chosen.1);
       few = omega arith;
-      made = ap (λ m. account_of m.0) done ∙ ap (λ (z : Account). after_publish (after_clear z k) k c.args.root (c.swap-found.result % 256)) was;
+      made = ap (λ m. account_of m.0) done ∙ ap (λ (z : Account). after_publish (after_clear z k) k c.args.root (count_in c.swap-found.result)) was;
     }
