@@ -1,0 +1,8 @@
+use Rattle.std.proofs.Common.{◌≡◌}
+use Rattle.ft_bench_register.proofs.publish_often.Given as goal
+
+abbrev pub invariant-loop-done : goal.invariant-loop-done
+invariant-loop-done l = record {
+  same : l.writer.origin ≡ l.fn.writer.origin;
+  version : l.writer.account.version ≡ l._done;
+}

@@ -1,0 +1,194 @@
+//! Counts of the register's calls, to be measured from outside by tools/register.
+//!
+//! `look N`, `turn N` and `publish N` make N rounds at 8 readers; `open N` and `copy N`
+//! open the default pool N times, or copy as many bytes. With no words each is done once.
+#![tactic(auto)]
+
+ghost use Rattle.std.specs.Prelude.{◌≡◌, ℕ, ◌+◌, ◌<◌, ◌≤◌, None, IsTrue, length};
+ghost use Rattle.ft_shared.specs.Account.{opened};
+ghost use Rattle.ft_shared.specs.Pass.{dealt};
+
+use anyhow::{Result, anyhow};
+use ft_shared::{ReaderPass, Shared, WriterPass};
+use ft_types::Steps;
+use std::alloc::Global;
+use std::env;
+use std::marker::Brand;
+use std::sync::ledger::{Blank, Ledger};
+
+/// Segments of the default pool.
+const SEGMENTS: u16 = 16_384;
+
+/// N looks of one reader.
+fn look_often<L: Ledger>(
+    shared: &Shared,
+    reader: &mut ReaderPass,
+    rounds: u32,
+    steps: &mut Steps<L>,
+)
+    requires { reader.old.origin ≡ shared.now }
+{
+    for _ in 0..rounds {
+        shared.look(reader, steps);
+    }
+}
+
+/// A whole scan at 8 readers, and the publish after it.
+fn publish_next(shared: &Shared, writer: &mut WriterPass) -> u32
+    requires same { writer.old.origin ≡ shared.now }
+    requires readers { shared.now.sizes.readers ≡ 8 }
+    requires room { writer.old.account.version < 4294967295 }
+    ensures same { writer.new.origin ≡ writer.old.origin }
+    ensures version { (result ≡ writer.old.account.version + 1) × (writer.new.account.version ≡ result) }
+{
+    shared.begin_scan(writer);
+    for k in 0..10 {
+        shared.scan_slot(writer, k);
+    }
+    shared.publish(writer, 0)
+}
+
+/// N scans and publishes.
+fn publish_often(shared: &Shared, writer: &mut WriterPass, rounds: u32)
+    requires same { writer.old.origin ≡ shared.now }
+    requires readers { shared.now.sizes.readers ≡ 8 }
+    requires first { writer.old.account.version ≡ 0 }
+    requires few { rounds ≤ 1000000 }
+{
+    for _done in 0..rounds {
+        publish_next(shared, writer);
+    }
+}
+
+/// A take, a scan with its publish, a look and a leave.
+fn turn_once<L: Ledger>(
+    shared: &Shared,
+    writer: &mut WriterPass,
+    reader: &mut ReaderPass,
+    steps: &mut Steps<L>,
+) -> bool
+    requires same { (writer.old.origin ≡ shared.now) × (reader.old.origin ≡ shared.now) }
+    requires readers { shared.now.sizes.readers ≡ 8 }
+    requires room { writer.old.account.version < 4294967295 }
+    requires free { reader.old.notes.held ≡ None }
+    ensures same { (writer.new.origin ≡ writer.old.origin) × (reader.new.origin ≡ reader.old.origin) }
+    ensures version { writer.new.account.version ≡ writer.old.account.version + 1 }
+    ensures free { IsTrue result → reader.new.notes.held ≡ None }
+{
+    let held = shared.take(reader, steps);
+    publish_next(shared, writer);
+    if shared.look(reader, steps) <= held.version {
+        return false;
+    }
+    shared.leave(reader, steps);
+    true
+}
+
+/// N turns.
+fn turn_often<L: Ledger>(
+    shared: &Shared,
+    writer: &mut WriterPass,
+    reader: &mut ReaderPass,
+    rounds: u32,
+    steps: &mut Steps<L>,
+)
+    requires same { (writer.old.origin ≡ shared.now) × (reader.old.origin ≡ shared.now) }
+    requires readers { shared.now.sizes.readers ≡ 8 }
+    requires first { writer.old.account.version ≡ 0 }
+    requires free { reader.old.notes.held ≡ None }
+    requires few { rounds ≤ 1000000 }
+{
+    for _done in 0..rounds {
+        if !turn_once(shared, writer, reader, steps) {
+            return;
+        }
+    }
+}
+
+/// Which calls are measured.
+#[derive(Clone, Copy, PartialEq, Eq)]
+enum Kind {
+    Look,
+    Turn,
+    Publish,
+    Open,
+    Copy,
+}
+
+fn measure<L: Ledger>(alloc: Global, blank: Blank, kind: Kind, rounds: u32) -> Result<()>
+    requires blank { (blank.name ≡ L.name) × (blank.parts ≡ L.parts) × (0 < L.parts) }
+{
+    let words = vec![in alloc; 0_u64; 256]?;
+    let (shared, mut writer, mut passes) = Shared::open(alloc, 64, 8, 1, 0, 0, &words)?;
+    let Some(mut reader) = passes.next() else {
+        return Ok(());
+    };
+    let mut steps = Steps::<L>::open(blank);
+    let rounds = rounds.min(1_000_000);
+    match kind {
+        Kind::Look => look_often(&shared, &mut reader, rounds, &mut steps),
+        Kind::Turn => turn_often(&shared, &mut writer, &mut reader, rounds, &mut steps),
+        Kind::Publish => publish_often(&shared, &mut writer, rounds),
+        Kind::Open => open_often(alloc, rounds)?,
+        Kind::Copy => copy_often(alloc, rounds)?,
+    }
+    Ok(())
+}
+
+/// Opens the default pool, N times.
+fn open_often(alloc: Global, rounds: u32) -> Result<()> {
+    let words = vec![in alloc; 0_u64; 256 * SEGMENTS as usize]?;
+    for _ in 0..rounds {
+        let (_shared, _writer, _passes) = Shared::open(alloc, SEGMENTS, 1, 32, 0, 0, &words)?;
+    }
+    Ok(())
+}
+
+/// Copies as many bytes, N times.
+fn copy_often(alloc: Global, rounds: u32) -> Result<()> {
+    let words = vec![in alloc; 0_u64; 256 * SEGMENTS as usize]?;
+    for _ in 0..rounds {
+        let _copy = words.clone()?;
+    }
+    Ok(())
+}
+
+fn run(alloc: Global, kind: Kind, rounds: u32) -> Result<()> {
+    measure::<Brand>(alloc, Blank::new(1), kind, rounds)
+}
+
+fn kind_of(word: &str) -> Option<Kind> {
+    match word {
+        "look" => Some(Kind::Look),
+        "turn" => Some(Kind::Turn),
+        "publish" => Some(Kind::Publish),
+        "open" => Some(Kind::Open),
+        "copy" => Some(Kind::Copy),
+        _ => None,
+    }
+}
+
+fn main(rt: HostRuntime) -> Result<()> {
+    let mut words = env::args(&rt)?;
+    words.next();
+    let Some(word) = words.next() else {
+        for kind in [
+            Kind::Look,
+            Kind::Turn,
+            Kind::Publish,
+            Kind::Open,
+            Kind::Copy,
+        ] {
+            run(rt.alloc(), kind, 1)?;
+        }
+        return Ok(());
+    };
+    let Some(kind) = kind_of(word.as_str()) else {
+        return Err(anyhow!("look, turn, publish, open or copy, and a number"));
+    };
+    let rounds = match words.next() {
+        Some(number) => number.as_str().parse()?,
+        None => 1,
+    };
+    run(rt.alloc(), kind, rounds)
+}

@@ -1,0 +1,5 @@
+pub mod Sums
+pub mod Readers
+pub mod Writes
+pub mod Publish
+pub mod Opens

@@ -1,0 +1,301 @@
+-- The two steps of a publish keep the rule, and a whole scan leaves a free slot.
+use Rattle.std.proofs.Common.{zero, suc, Bool, true, false, ltb, eqb, eq-eqb, ne_eqb, ◌≡◌, ◌≢◌, ◌⊎◌, inl, inr, ℕ, ◌+◌, ◌*◌, ◌<◌, ◌≤◌, List, [], ◌∷◌, ◌++◌, length, get_or, set, sym, refl, ap, ◌∙◌, subst, ⊎_elim, arith, Option, Some, slice_index_or, length-set, length-append, get_or-set_other, get_or-set_same}
+use mathlib.Core.Option.{none, some, some-injective, some-ne-none}
+use mathlib.Core.Logic.{dite}
+use native.Mathlib.Decide.{ℕ_discrete}
+use lib.ListN.{get_elem?}
+use Rattle.atomic_table.specs.Table.{step, keeps, Allows}
+use Rattle.atomic_table.proofs.Lists.{at_set, at_longer, at_last}
+use Rattle.ft_shared.specs.declared.law.Sizes.{Sizes}
+use Rattle.ft_shared.specs.declared.law.Opening.{Opening}
+use Rattle.ft_shared.specs.declared.law.PlacedVersion.{PlacedVersion}
+use Rattle.ft_shared.specs.declared.law.Taken.{Taken}
+use Rattle.ft_shared.specs.declared.law.Hold.{Hold}
+use Rattle.ft_shared.specs.declared.law.Slot.{Slot}
+use Rattle.ft_shared.specs.declared.law.Account.{Account}
+use Rattle.ft_shared.specs.declared.law.View.{View}
+use Rattle.ft_shared.specs.declared.law.View.TheVariants.{Spent, Reader, Writer}
+use Rattle.ft_shared.specs.Layout.{current_word, slot_in, root_in, count_in}
+use Rattle.ft_shared.specs.Counts.{bit, upto, passes, one, numbered, grips, grip_of, holding}
+use Rattle.ft_shared.specs.History.{Agrees, IsHistory}
+use Rattle.ft_shared.specs.Account.{slot_at, no_slot, account_of, after_clear, after_publish}
+use Rattle.ft_shared.specs.Register.{Words, Seated, Stands, Fits, amount, scan_count, marks, Registered}
+use Rattle.ft_shared.specs.Plays.{cleared, published}
+use Rattle.ft_shared.proofs.Sums.{at-le, index-le, set-keeps, slot-of, root-of, count-of, amount-le, upto-le, all-but-one}
+use Rattle.ft_shared.proofs.Readers.{count-le, word-there}
+use Rattle.ft_shared.proofs.Writes.{stands_still, seats_still, sum_still, true-false}
+
+module _ (key : Opening) where
+  -- the leavers of a free slot go to 0
+  cleared_at : (s : Words) (q : Registered key s) (id k : ℕ) → get_elem? s.views id ≡ some (Writer q.account) → id ≡ q.writer → k < key.sizes.readers + 2 → (slot_at q.account k).free ≡ true
+      → Registered key record { words = set s.words (k + 1) 0; homes = s.homes; views = set s.views id (Writer (after_clear q.account k)) }
+  cleared_at s q id k at writes inside free =
+      let a : Account = q.account in
+      let b : Account = after_clear a k in
+      let vs : List View = set s.views id (Writer b) in
+      let u = q.unused k free in
+      let deep = q.deep in
+      let few = q.few in
+      let bare : Slot = record (slot_at a k) { start = 0 } in
+      let versions : (j : ℕ) → (slot_at b j).version ≡ (slot_at a j).version = set-keeps (λ (z : Slot). z.version) a.slots k no_slot bare refl in
+      let frees : (j : ℕ) → (slot_at b j).free ≡ (slot_at a j).free = set-keeps (λ (z : Slot). z.free) a.slots k no_slot bare refl in
+      let start-here : (slot_at b k).start ≡ 0 = ap (λ (z : Slot). z.start) (get_or-set_same a.slots k bare no_slot (omega arith)) in
+      let start-else : (j : ℕ) → j ≢ k → (slot_at b j).start ≡ (slot_at a j).start = λ j ne. ap (λ (z : Slot). z.start) (get_or-set_other a.slots k j bare no_slot ne) in
+      let same : (j : ℕ) → holding j vs ≡ holding j s.views = λ j. sum_still key s id a b at refl (grip_of j) in
+      record {
+        writer = q.writer;
+        account = b;
+        few = q.few;
+        told = q.told;
+        wide = length-set s.words (k + 1) 0 ∙ q.wide;
+        deep = length-set a.slots k bare ∙ q.deep;
+        ranges = q.ranges;
+        current = get_or-set_other s.words (k + 1) 0 0 0 (omega arith) ∙ (q.current ∙ ap (current_word a.version a.slot a.root) (sym (same a.slot)));
+        bears = versions a.slot ∙ q.bears;
+        history = q.history;
+        fresh = get_or-set_other s.words (k + 1) (a.slot + 1) 0 0 (λ e. u.0 (omega arith)) ∙ q.fresh;
+        leavers = λ j l ne. dite (ℕ_discrete j k)
+            (λ (h : j ≡ k). subst (λ (i : ℕ). (slot_at b i).start ≡ get_or (set s.words (k + 1) 0) (i + 1) 0 + holding i vs) (sym h)
+            (let x : get_or (set s.words (k + 1) 0) (k + 1) 0 ≡ 0 = get_or-set_same s.words (k + 1) 0 0 (word-there key s q (k + 1) (omega arith)) in
+            let y : holding k vs ≡ 0 = same k ∙ u.1 in omega arith))
+            (λ (h : j ≢ k). let x = start-else j h in let y = get_or-set_other s.words (k + 1) (j + 1) 0 0 (λ e. h (omega arith)) in let z = same j in let g = q.leavers j l ne in omega arith);
+        starts = λ j. dite (ℕ_discrete j k)
+            (λ (h : j ≡ k). subst (λ (i : ℕ). (slot_at b i).start ≤ key.sizes.readers) (sym h) (omega arith))
+            (λ (h : j ≢ k). let x = start-else j h in let y = q.starts j in omega arith);
+        unused = λ j e. let v = q.unused j (sym (frees j) ∙ e) in (v.0, same j ∙ v.1);
+        scanned = λ t. let x = q.scanned t in
+            let y = upto-le (scan_count b vs) (scan_count a s.views) (key.sizes.readers + 2) (λ j l.
+            subst (λ (f : Bool). amount (eqb j a.slot) f (ltb j (length a.scan)) (holding j vs) ≤ scan_count a s.views j) (sym (frees j))
+            (amount-le (eqb j a.slot) (slot_at a j).free (ltb j (length a.scan)) (holding j vs) (holding j s.views) (λ e. let h = same j in omega arith))) in omega arith;
+        count = (sum_still key s id a b at refl one ∙ q.count.0, q.count.1);
+        numbers = λ n. sum_still key s id a b at refl (numbered n) ∙ q.numbers n;
+        unpinned = λ i l. get_or-set_other s.words (k + 1) (key.sizes.readers + 3 + i) 0 0 (omega arith) ∙ q.unpinned i l;
+        stored = (q.stored.0, λ i. let p : ℕ = key.sizes.readers * key.sizes.channels in get_or-set_other s.words (k + 1) (key.sizes.readers + 3 + p + i) 0 0 (omega arith) ∙ q.stored.1 i);
+        settled = λ i x e. stands_still key a b (slice_index_or a.settled i x) refl versions refl (q.settled i x e);
+        each_seat = seats_still key s q id writes b refl versions refl;
+      }
+
+  pub clears : (slots id k : ℕ) (me : Seated) → me.0 ≡ Writer (account_of me.0) → k < key.sizes.readers + 2 → (slot_at (account_of me.0) k).free ≡ true
+      → Allows (Registered key) slots id me (k + 1) (λ _. 0) (λ _. cleared (step slots (k + 1) 0 0 none) me 0)
+  clears slots id k me is inside free s q deep at small =
+      let e : Account = account_of me.0 in
+      let at' : get_elem? s.views id ≡ some (Writer e) = at ∙ ap some is in
+      let same : (e ≡ q.account) × (id ≡ q.writer) = q.each_seat id (Writer e) at' in (
+        Writer (after_clear e k),
+        keeps,
+        tt,
+        subst (λ (z : Account). get_elem? s.views id ≡ some (Writer z) → (slot_at z k).free ≡ true → Registered key record { words = set s.words (k + 1) 0; homes = s.homes; views = set s.views id (Writer (after_clear z k)) }) (sym same.0)
+            (λ t f. cleared_at s q id k t same.1 inside f) at' free,
+        λ j h. let e2 : k ≡ j = omega arith in
+            let apart : k ≢ e.slot = subst (λ (z : Account). (slot_at z k).free ≡ true → k ≢ z.slot) (sym same.0) (λ f. (q.unused k f).0) free in
+            (ap (λ (i : ℕ). (Writer (after_clear e i), me.1)) e2, λ t. apart (e2 ∙ t)),
+      )
+
+  grips-zero : (k slot : ℕ) (o : Option Taken) (t : Taken) → grips k o slot ≡ 0 → o ≡ Some t → slot ≢ k
+  grips-zero k slot o t z e h = let x : grips k o slot ≡ 1 = ap (λ (p : Option Taken). grips k p slot) e ∙ ap bit (eq-eqb slot k h) in absurd (omega arith)
+
+  at_end : (l : List PlacedVersion) (a b : PlacedVersion) (j : ℕ) → get_elem? (l ++ a ∷ []) j ≡ some b → (get_elem? l j ≡ some b) ⊎ ((j ≡ length l) × (a ≡ b))
+  at_end [] a b zero e = inr (refl, some-injective a b e)
+  at_end [] a b (suc j) e = absurd (some-ne-none b (sym e))
+  at_end (x ∷ xs) a b zero e = inl e
+  at_end (x ∷ xs) a b (suc j) e = ⊎_elim (λ (t : get_elem? xs j ≡ some b). inl t) (λ (t : (j ≡ length xs) × (a ≡ b)). inr (ap suc t.0, t.1)) (at_end xs a b j e)
+
+  -- the history grows by the next version
+  history_next : (h : List PlacedVersion) (first last root next : ℕ) (pool : List ℕ) → IsHistory h first last root → IsHistory (h ++ record { version = last + 1; root = next; pool = pool } ∷ []) first (last + 1) next
+  history_next h first last root next pool is =
+      let p : PlacedVersion = record { version = last + 1; root = next; pool = pool } in
+      let count = is.count in
+      record {
+        count = let n = length-append h (p ∷ []) in omega arith;
+        versions = λ n x e. ⊎_elim (λ (t : get_elem? h n ≡ some x). is.versions n x t)
+            (λ (t : (n ≡ length h) × (p ≡ x)). let v : last + 1 ≡ x.version = ap (λ (z : PlacedVersion). z.version) t.1 in let m = t.0 in omega arith) (at_end h p x n e);
+        latest = (length h, p, count, at_last h p (length h) refl, refl, refl);
+      }
+
+  agrees_longer : (h : List PlacedVersion) (p : PlacedVersion) (g : Hold) → Agrees h g.notes → Agrees (h ++ p ∷ []) g.notes
+  agrees_longer h p g a = record {
+    looks = λ i x l. let b = a.looks i x l in (b.0, b.1, at_longer h (p ∷ []) b.0 b.1 b.2, b.3);
+    takes = λ i x l. let b = a.takes i x l in (b.0, b.1, at_longer h (p ∷ []) b.0 b.1 b.2, b.3, b.4);
+    held = λ t e. let b = a.held t e in (b.0, b.1, at_longer h (p ∷ []) b.0 b.1 b.2, b.3, b.4);
+  }
+
+  -- the slots after a publish: the chosen one, and the others
+  version-else : (a : Account) (k root n j : ℕ) → j ≢ k → (slot_at (after_publish a k root n) j).version ≡ (slot_at a j).version
+  version-else a k root n j ne =
+      let old : Slot = record (slot_at a a.slot) { start = n } in
+      let new : Slot = record { version = a.version + 1; start = 0; free = false } in
+      ap (λ (z : Slot). z.version) (get_or-set_other (set a.slots a.slot old) k j new no_slot ne) ∙ set-keeps (λ (z : Slot). z.version) a.slots a.slot no_slot old refl j
+
+  free-else : (a : Account) (k root n j : ℕ) → j ≢ k → (slot_at (after_publish a k root n) j).free ≡ (slot_at a j).free
+  free-else a k root n j ne =
+      let old : Slot = record (slot_at a a.slot) { start = n } in
+      let new : Slot = record { version = a.version + 1; start = 0; free = false } in
+      ap (λ (z : Slot). z.free) (get_or-set_other (set a.slots a.slot old) k j new no_slot ne) ∙ set-keeps (λ (z : Slot). z.free) a.slots a.slot no_slot old refl j
+
+  start-else : (a : Account) (k root n j : ℕ) → j ≢ k → j ≢ a.slot → (slot_at (after_publish a k root n) j).start ≡ (slot_at a j).start
+  start-else a k root n j ne other =
+      let old : Slot = record (slot_at a a.slot) { start = n } in
+      let new : Slot = record { version = a.version + 1; start = 0; free = false } in
+      ap (λ (z : Slot). z.start) (get_or-set_other (set a.slots a.slot old) k j new no_slot ne ∙ get_or-set_other a.slots a.slot j old no_slot other)
+
+  start-old : (a : Account) (k root n : ℕ) → a.slot ≢ k → a.slot < length a.slots → (slot_at (after_publish a k root n) a.slot).start ≡ n
+  start-old a k root n ne inside =
+      let old : Slot = record (slot_at a a.slot) { start = n } in
+      let new : Slot = record { version = a.version + 1; start = 0; free = false } in
+      ap (λ (z : Slot). z.start) (get_or-set_other (set a.slots a.slot old) k a.slot new no_slot ne ∙ get_or-set_same a.slots a.slot old no_slot inside)
+
+  chosen : (a : Account) (k root n : ℕ) → k < length a.slots → slot_at (after_publish a k root n) k ≡ record { version = a.version + 1; start = 0; free = false }
+  chosen a k root n inside =
+      let old : Slot = record (slot_at a a.slot) { start = n } in
+      let new : Slot = record { version = a.version + 1; start = 0; free = false } in
+      let l = length-set a.slots a.slot old in
+      get_or-set_same (set a.slots a.slot old) k new no_slot (omega arith)
+
+  -- a pass that holds nothing in the chosen slot stands after the publish
+  stands_next : (a : Account) (k root n : ℕ) (h : Hold) → grip_of k h ≡ 0 → Stands key a h → Stands key (after_publish a k root n) h
+  stands_next a k root n h empty f = record {
+    told = f.told;
+    past = let l = f.past in omega arith;
+    recent = λ v e. let l = f.recent v e in omega arith;
+    borne = λ t e. let b = f.borne t e in (b.0, version-else a k root n h.slot (grips-zero k h.slot h.notes.held t empty e) ∙ b.1);
+    agrees = agrees_longer a.history (record { version = a.version + 1; root = root; pool = a.pool }) h f.agrees;
+  }
+
+  -- no pass holds a slot that was found free
+  unheld : (s : Words) (q : Registered key s) (k : ℕ) → (slot_at q.account k).free ≡ true → (j : ℕ) (v : View) → get_elem? s.views j ≡ some v → passes (grip_of k) v ≡ 0
+  unheld s q k free j v at = let u = (q.unused k free).1 in let a = at-le (passes (grip_of k)) s.views j v at in omega arith
+
+  published_at : (s : Words) (q : Registered key s) (id k root : ℕ) → get_elem? s.views id ≡ some (Writer q.account) → id ≡ q.writer → k < key.sizes.readers + 2 → (slot_at q.account k).free ≡ true
+      → (slot_at q.account k).start ≡ 0 → q.account.version + 1 < 4294967296 → root < 65536
+      → Registered key record { words = set s.words 0 (current_word (q.account.version + 1) k root 0); homes = s.homes; views = set s.views id (Writer (after_publish q.account k root (count_in (get_or s.words 0 0)))) }
+  published_at s q id k root at writes inside free bare room fits =
+      let a : Account = q.account in
+      let n : ℕ = count_in (get_or s.words 0 0) in
+      let b : Account = after_publish a k root n in
+      let vs : List View = set s.views id (Writer b) in
+      let new : ℕ = current_word (a.version + 1) k root 0 in
+      let u = q.unused k free in
+      let few = q.few in
+      let deep = q.deep in
+      let ranges = q.ranges in
+      let there = word-there key s q in
+      let same : (j : ℕ) → holding j vs ≡ holding j s.views = λ j. sum_still key s id a b at refl (grip_of j) in
+      let empty : holding k vs ≡ 0 = same k ∙ u.1 in
+      let old : n ≡ holding a.slot s.views = ap count_in q.current ∙ count-of a.version a.slot a.root (holding a.slot s.views) (let c = count-le key s q a.slot in omega arith) in
+      let most = count-le key s q a.slot in
+      let apart : a.slot ≢ k = λ e. u.0 (sym e) in
+      let leavers-k = q.leavers k inside u.0 in
+      let is : slot_at b k ≡ record { version = a.version + 1; start = 0; free = false } = chosen a k root n (omega arith) in
+      let start-k : (slot_at b k).start ≡ 0 = ap (λ (z : Slot). z.start) is in
+      let start-o : (slot_at b a.slot).start ≡ n = start-old a k root n apart (omega arith) in
+      record {
+        writer = q.writer;
+        account = b;
+        few = q.few;
+        told = q.told;
+        wide = length-set s.words 0 new ∙ q.wide;
+        deep = length-set (set a.slots a.slot (record (slot_at a a.slot) { start = n })) k (record { version = a.version + 1; start = 0; free = false }) ∙ (length-set a.slots a.slot (record (slot_at a a.slot) { start = n }) ∙ q.deep);
+        ranges = (room, fits, inside);
+        current = get_or-set_same s.words 0 new 0 (there 0 (omega arith)) ∙ ap (current_word (a.version + 1) k root) (sym empty);
+        bears = ap (λ (z : Slot). z.version) is;
+        history = history_next a.history key.version a.version a.root root a.pool q.history;
+        fresh = get_or-set_other s.words 0 (k + 1) new 0 (omega arith) ∙ (let z = u.1 in omega arith);
+        leavers = λ j l ne. dite (ℕ_discrete j a.slot)
+            (λ (h : j ≡ a.slot). subst (λ (i : ℕ). (slot_at b i).start ≡ get_or (set s.words 0 new) (i + 1) 0 + holding i vs) (sym h)
+            (let y : get_or (set s.words 0 new) (a.slot + 1) 0 ≡ 0 = get_or-set_other s.words 0 (a.slot + 1) new 0 (omega arith) ∙ q.fresh in
+            let z = same a.slot in omega arith))
+            (λ (h : j ≢ a.slot). let x = start-else a k root n j ne h in let y = get_or-set_other s.words 0 (j + 1) new 0 (omega arith) in let z = same j in let g = q.leavers j l h in omega arith);
+        starts = λ j. dite (ℕ_discrete j k)
+            (λ (h : j ≡ k). subst (λ (i : ℕ). (slot_at b i).start ≤ key.sizes.readers) (sym h) (omega arith))
+            (λ (h : j ≢ k). dite (ℕ_discrete j a.slot)
+            (λ (g : j ≡ a.slot). subst (λ (i : ℕ). (slot_at b i).start ≤ key.sizes.readers) (sym g) (omega arith))
+            (λ (g : j ≢ a.slot). let x = start-else a k root n j h g in let y = q.starts j in omega arith));
+        unused = λ j e. dite (ℕ_discrete j k)
+            (λ (h : j ≡ k). absurd (true-false (sym e ∙ (ap (λ (i : ℕ). (slot_at b i).free) h ∙ ap (λ (z : Slot). z.free) is))))
+            (λ (h : j ≢ k). let v = q.unused j (sym (free-else a k root n j h) ∙ e) in (h, same j ∙ v.1));
+        scanned = λ t. absurd (true-false (sym t));
+        count = (sum_still key s id a b at refl one ∙ q.count.0, q.count.1);
+        numbers = λ m. sum_still key s id a b at refl (numbered m) ∙ q.numbers m;
+        unpinned = λ i l. get_or-set_other s.words 0 (key.sizes.readers + 3 + i) new 0 (omega arith) ∙ q.unpinned i l;
+        stored = (q.stored.0, λ i. let p : ℕ = key.sizes.readers * key.sizes.channels in get_or-set_other s.words 0 (key.sizes.readers + 3 + p + i) new 0 (omega arith) ∙ q.stored.1 i);
+        settled = λ i x e. stands_next a k root n (slice_index_or a.settled i x)
+            (let y = unheld s q k free id (Writer a) at in let z = index-le (grip_of k) a.settled i x e in omega arith) (q.settled i x e);
+        each_seat = λ j v e. ⊎_elim (λ (t : (j ≡ id) × (Writer b ≡ v)). subst (Fits key b q.writer j) t.1 (refl, t.0 ∙ writes))
+            (λ (t : (j ≢ id) × (get_elem? s.views j ≡ some v)). rest-of j v t.0 (unheld s q k free j v t.1) (q.each_seat j v t.1)) (at_set s.views id j (Writer b) v e);
+      }
+    where
+      rest-of : (j : ℕ) (v : View) → j ≢ id → passes (grip_of k) v ≡ 0 → Fits key q.account q.writer j v → Fits key (after_publish q.account k root (count_in (get_or s.words 0 0))) q.writer j v
+      rest-of j Spent ne z f = tt
+      rest-of j (Reader h) ne z f = stands_next q.account k root (count_in (get_or s.words 0 0)) h z f
+      rest-of j (Writer e) ne z f = absurd (ne (f.1 ∙ sym writes))
+
+  pub publishes : (slots id k root : ℕ) (me : Seated) → me.0 ≡ Writer (account_of me.0) → k < key.sizes.readers + 2 → key.sizes.readers ≤ 8 → (slot_at (account_of me.0) k).free ≡ true
+      → (slot_at (account_of me.0) k).start ≡ 0 → (account_of me.0).version + 1 < 4294967296 → root < 65536
+      → Allows (Registered key) slots id me 0 (λ _. current_word ((account_of me.0).version + 1) k root 0) (published (step slots 0 (current_word ((account_of me.0).version + 1) k root 0) 0 none) me)
+  publishes slots id k root me is inside few free bare room fits s q deep at small =
+      let e : Account = account_of me.0 in
+      let n : ℕ = count_in (get_or s.words 0 0) in
+      let at' : get_elem? s.views id ≡ some (Writer e) = at ∙ ap some is in
+      let same : (e ≡ q.account) × (id ≡ q.writer) = q.each_seat id (Writer e) at' in
+      let most : n ≤ key.sizes.readers = let c = count-le key s q q.account.slot in let o = ap count_in q.current ∙ count-of q.account.version q.account.slot q.account.root (holding q.account.slot s.views) (omega arith) in omega arith in
+      let readers : e.sizes.readers ≡ key.sizes.readers = ap (λ (z : Account). z.sizes.readers) same.0 ∙ ap (λ (z : Sizes). z.readers) q.told in (
+        Writer (after_publish e k root n),
+        keeps,
+        tt,
+        subst (λ (z : Account). get_elem? s.views id ≡ some (Writer z) → (slot_at z k).free ≡ true → (slot_at z k).start ≡ 0 → z.version + 1 < 4294967296
+            → Registered key record { words = set s.words 0 (current_word (z.version + 1) k root 0); homes = s.homes; views = set s.views id (Writer (after_publish z k root n)) }) (sym same.0)
+            (λ t f b r. published_at s q id k root t same.1 inside f b r fits) at' free bare room,
+        ((λ i. (Writer (after_publish e (sym (slot-of (e.version + 1) k root 0 (omega arith) fits (omega arith)) i) (sym (root-of (e.version + 1) k root 0 (omega arith) fits (omega arith)) i) n), me.1)), omega arith),
+      )
+
+-- a slot below n that is free, or none is
+free-or-none : (ss : List Slot) (n : ℕ) → ((k : ℕ) × (k < n) × ((slice_index_or ss k no_slot).free ≡ true)) ⊎ ((k : ℕ) → k < n → (slice_index_or ss k no_slot).free ≡ false)
+free-or-none ss zero = inr (λ k l. absurd (omega arith))
+free-or-none ss (suc n) = go (free-or-none ss n) (slice_index_or ss n no_slot).free refl
+  where
+    go : ((k : ℕ) × (k < n) × ((slice_index_or ss k no_slot).free ≡ true)) ⊎ ((k : ℕ) → k < n → (slice_index_or ss k no_slot).free ≡ false) → (b : Bool) → (slice_index_or ss n no_slot).free ≡ b
+        → ((k : ℕ) × (k < suc n) × ((slice_index_or ss k no_slot).free ≡ true)) ⊎ ((k : ℕ) → k < suc n → (slice_index_or ss k no_slot).free ≡ false)
+    go r true e = inl (n, omega arith, e)
+    go r false e = ⊎_elim (λ (t : (k : ℕ) × (k < n) × ((slice_index_or ss k no_slot).free ≡ true)). let l = t.1 in inl (t.0, omega arith, t.2))
+        (λ (t : (k : ℕ) → k < n → (slice_index_or ss k no_slot).free ≡ false). inr (λ k l. dite (ℕ_discrete k n) (λ (h : k ≡ n). ap (λ (j : ℕ). (slice_index_or ss j no_slot).free) h ∙ e) (λ (h : k ≢ n). t k (omega arith)))) r
+
+-- after a whole scan a free slot is there: of readers + 2 slots one is current, and at most the readers' number was found held
+pub a_free_slot : (a : Account) (readers : ℕ) → upto (marks a) (readers + 2) ≤ readers → (k : ℕ) × (k < readers + 2) × ((slot_at a k).free ≡ true)
+a_free_slot a readers whole = ⊎_elim (λ t. t)
+    (λ (none-free : (k : ℕ) → k < readers + 2 → (slot_at a k).free ≡ false).
+    let c = all-but-one (marks a) a.slot (readers + 2) (λ k l ne. λ i. amount (ne_eqb k a.slot ne i) (none-free k l i) true 0) in absurd (omega arith))
+    (free-or-none a.slots (readers + 2))
+
+-- what was written to k before is forgotten
+set-twice : {A : Type 0} (l : List A) (k : ℕ) (x y : A) → set (set l k x) k y ≡ set l k y
+set-twice [] k x y = refl
+set-twice (a ∷ l) zero x y = refl
+set-twice (a ∷ l) (suc k) x y = λ i. a ∷ set-twice l k x y i
+
+set-forget : {A : Type 0} (l : List A) (k j : ℕ) (x y z : A) → set (set (set l k x) j y) k z ≡ set (set l j y) k z
+set-forget [] k j x y z = refl
+set-forget (a ∷ l) zero zero x y z = refl
+set-forget (a ∷ l) zero (suc j) x y z = refl
+set-forget (a ∷ l) (suc k) zero x y z = λ i. y ∷ set-twice l k x z i
+set-forget (a ∷ l) (suc k) (suc j) x y z = λ i. a ∷ set-forget l k j x y z i
+
+-- the slots after a clear and a publish
+pub slots_published : (a : Account) (k root n : ℕ) → a.slot ≢ k
+    → (after_publish (after_clear a k) k root n).slots ≡ set (set a.slots a.slot (record (slot_at a a.slot) { start = n })) k (record { version = a.version + 1; start = 0; free = false })
+slots_published a k root n apart =
+    let bare : Slot = record (slot_at a k) { start = 0 } in
+    let new : Slot = record { version = a.version + 1; start = 0; free = false } in
+    let old : Slot = record (slot_at (after_clear a k) a.slot) { start = n } in
+    set-forget a.slots k a.slot bare old new ∙ ap (λ (z : Slot). set (set a.slots a.slot (record z { start = n })) k new) (get_or-set_other a.slots k a.slot bare no_slot apart)
+
+-- the seat after both steps of a publish
+pub seat_published : (a : Account) (mid fin : Seated) (k root n word version : ℕ) → mid ≡ (Writer (after_clear a k), [])
+    → fin ≡ (Writer (after_publish (account_of mid.0) (slot_in word) (root_in word) n), mid.1) → word ≡ current_word version k root 0 → k < 256 → root < 65536
+    → fin ≡ (Writer (after_publish (after_clear a k) k root n), [])
+seat_published a mid fin k root n word version was now is few fits =
+    let slot : slot_in word ≡ k = ap slot_in is ∙ slot-of version k root 0 few fits (omega arith) in
+    let roots : root_in word ≡ root = ap root_in is ∙ root-of version k root 0 few fits (omega arith) in
+    now ∙ (λ i. (Writer (after_publish (account_of (was i).0) (slot i) (roots i) n), (was i).1))
+
+pub seated : (m : Seated) (a : Account) → m ≡ (Writer a, []) → m ≡ (Writer (account_of m.0), [])
+seated m a e = e ∙ ap (λ (z : Account). (Writer z, [])) (sym (ap (λ (n : Seated). account_of n.0) e))

@@ -1,0 +1,224 @@
+-- A reader's steps keep the rule.
+use Rattle.std.proofs.Common.{true, ltb, false-eqb, ◌≡◌, ◌≢◌, ℕ, ◌+◌, ◌*◌, ◌%◌, ◌^◌, ◌<◌, ◌≤◌, eqb, List, [], ◌∷◌, length, get_or, set, sym, refl, ap, ◌∙◌, subst, ⊎_elim, arith, Option, Some, None, IsSomeAnd, length-set, get_or-set_other, get_or-set_same, eq-eqb, ne_eqb}
+use Rattle.std.proofs.lemmas.List.Elements.{All-append}
+use mathlib.Core.Option.{none, some}
+use mathlib.Core.Logic.{dite}
+use native.Mathlib.Decide.{ℕ_discrete}
+use lib.ListN.{get_elem?}
+use lib.Seq.{set-get_or}
+use Rattle.atomic_table.specs.Table.{step, keeps, Allows}
+use Rattle.atomic_table.proofs.Lists.{at_set}
+use Rattle.ft_shared.specs.declared.law.Opening.{Opening}
+use Rattle.ft_shared.specs.declared.law.Taken.{Taken}
+use Rattle.ft_shared.specs.declared.law.Hold.{Hold}
+use Rattle.ft_shared.specs.declared.law.Account.{Account}
+use Rattle.ft_shared.specs.declared.law.View.{View}
+use Rattle.ft_shared.specs.declared.law.View.TheVariants.{Reader}
+use Rattle.ft_shared.specs.Layout.{current_word, version_in, slot_in, root_in}
+use Rattle.ft_shared.specs.Counts.{bit, upto, passes, one, numbered, grips, grip_of, holding}
+use Rattle.ft_shared.specs.History.{HasVersion, HasTaken}
+use Rattle.ft_shared.specs.Account.{slot_at, hold_of}
+use Rattle.ft_shared.specs.Register.{Words, Seated, Stands, Fits, scan_count, Registered}
+use Rattle.ft_shared.specs.Plays.{after_look, after_take, after_leave, looked, took, left}
+use Rattle.ft_shared.proofs.Sums.{total-set, total-le, all_one, passes-le, version-of, slot-of, root-of, amount-le, upto-le}
+
+none_some : {A : Type 0} (x : A) → None ≡ Some x → ⊥
+none_some x e = cc
+
+module _ (key : Opening) where
+  -- the count fits its byte
+  pub count-le : (s : Words) (q : Registered key s) (k : ℕ) → holding k s.views ≤ key.sizes.readers
+  count-le s q k = let a = total-le (passes (grip_of k)) (passes one) (passes-le k) s.views in let b = q.count in omega arith
+
+  -- CURRENT and the leavers of each slot are words of the table
+  pub word-there : (s : Words) (q : Registered key s) (i : ℕ) → i < key.sizes.readers + 3 → i < length s.words
+  word-there s q i l = let w = q.wide in let p : ℕ = key.sizes.readers * key.sizes.channels in let w' : length s.words ≡ key.sizes.readers + 3 + p + 256 * key.sizes.segments = w in omega arith
+
+  pub version-now : (s : Words) (q : Registered key s) → version_in (get_or s.words 0 0) ≡ q.account.version
+  version-now s q = let a = count-le s q q.account.slot in let f = q.few in let z = q.ranges in ap version_in q.current ∙ version-of q.account.version q.account.slot q.account.root (holding q.account.slot s.views) (omega arith) z.1 (omega arith)
+
+  pub slot-now : (s : Words) (q : Registered key s) → slot_in (get_or s.words 0 0) ≡ q.account.slot
+  slot-now s q = let a = count-le s q q.account.slot in let f = q.few in let z = q.ranges in ap slot_in q.current ∙ slot-of q.account.version q.account.slot q.account.root (holding q.account.slot s.views) (omega arith) z.1 (omega arith)
+
+  pub root-now : (s : Words) (q : Registered key s) → root_in (get_or s.words 0 0) ≡ q.account.root
+  root-now s q = let a = count-le s q q.account.slot in let f = q.few in let z = q.ranges in ap root_in q.current ∙ root-of q.account.version q.account.slot q.account.root (holding q.account.slot s.views) (omega arith) z.1 (omega arith)
+
+  -- what a scan counts does not grow where no slot but the current one has more holders
+  pub fewer : (s : Words) (q : Registered key s) (vs : List View) → ((k : ℕ) → k ≢ q.account.slot → holding k vs ≤ holding k s.views)
+      → q.account.begun ≡ true → upto (scan_count q.account vs) (key.sizes.readers + 2) ≤ key.sizes.readers
+  fewer s q vs less b = let a = q.scanned b in let d : Account = q.account in
+      let c = upto-le (scan_count d vs) (scan_count d s.views) (key.sizes.readers + 2)
+      (λ k l. amount-le (eqb k d.slot) (slot_at d k).free (ltb k (length d.scan)) (holding k vs) (holding k s.views) (λ e. less k (false-eqb k d.slot (sym e)))) in omega arith
+
+  -- the reader at the seat id goes from h to h', and the words become ws
+  reader_step : (s : Words) (q : Registered key s) (id : ℕ) (h h' : Hold) (ws : List ℕ) → get_elem? s.views id ≡ some (Reader h) → length ws ≡ length s.words
+      → h'.notes.number ≡ h.notes.number → Stands key q.account h'
+      → ((i : ℕ) → key.sizes.readers + 3 ≤ i → get_or ws i 0 ≡ get_or s.words i 0)
+      → get_or ws 0 0 ≡ current_word q.account.version q.account.slot q.account.root (holding q.account.slot (set s.views id (Reader h')))
+      → get_or ws (q.account.slot + 1) 0 ≡ 0
+      → ((k : ℕ) → k < key.sizes.readers + 2 → k ≢ q.account.slot → (slot_at q.account k).start ≡ get_or ws (k + 1) 0 + holding k (set s.views id (Reader h')))
+      → ((k : ℕ) → k ≢ q.account.slot → holding k (set s.views id (Reader h')) ≤ holding k s.views)
+      → Registered key record { words = ws; homes = s.homes; views = set s.views id (Reader h') }
+  reader_step s q id h h' ws at wide number stands beyond current fresh leavers less = record {
+    writer = q.writer;
+    account = q.account;
+    few = q.few;
+    told = q.told;
+    wide = wide ∙ q.wide;
+    deep = q.deep;
+    ranges = q.ranges;
+    current = current;
+    bears = q.bears;
+    history = q.history;
+    fresh = fresh;
+    leavers = leavers;
+    starts = q.starts;
+    unused = λ k e. let u = q.unused k e in let l = less k u.0 in (u.0, omega arith);
+    scanned = λ b. fewer s q (set s.views id (Reader h')) less b;
+    count = (let e = total-set (passes one) s.views id (Reader h) (Reader h') at in let b = q.count in omega arith, q.count.1);
+    numbers = λ n. let e = total-set (passes (numbered n)) s.views id (Reader h) (Reader h') at in let m : numbered n h' ≡ numbered n h = ap (λ (k : ℕ). bit (eqb k n)) number in let b = q.numbers n in omega arith;
+    unpinned = λ i l. beyond (key.sizes.readers + 3 + i) (omega arith) ∙ q.unpinned i l;
+    stored = (q.stored.0, λ i. let p : ℕ = key.sizes.readers * key.sizes.channels in beyond (key.sizes.readers + 3 + p + i) (omega arith) ∙ q.stored.1 i);
+    settled = q.settled;
+    each_seat = λ j v e. ⊎_elim (λ (t : (j ≡ id) × (Reader h' ≡ v)). subst (Fits key q.account q.writer j) t.1 stands)
+        (λ (t : (j ≢ id) × (get_elem? s.views j ≡ some v)). q.each_seat j v t.1) (at_set s.views id j (Reader h') v e);
+  }
+
+  pub looks : (slots id : ℕ) (me : Seated) → me.0 ≡ Reader (hold_of me.0) → Allows (Registered key) slots id me 0 (λ n. n) (looked (step slots 0 0 0 none) me)
+  looks slots id me is s q deep at small =
+      let h : Hold = hold_of me.0 in
+      let at' : get_elem? s.views id ≡ some (Reader h) = at ∙ ap some is in
+      let w : ℕ = get_or s.words 0 0 in
+      let h' : Hold = after_look h w in
+      let a : Account = q.account in
+      let now : version_in w ≡ a.version = version-now s q in
+      let mine = q.each_seat id (Reader h) at' in
+      let past : h.notes.seen ≤ a.version = mine.past in
+      let last = q.history.latest in
+      let same : (k : ℕ) → holding k (set s.views id (Reader h')) ≡ holding k s.views = λ k. let e = total-set (passes (grip_of k)) s.views id (Reader h) (Reader h') at' in omega arith in (
+        Reader h',
+        keeps,
+        tt,
+        subst (λ (ws : List ℕ). Registered key record { words = ws; homes = s.homes; views = set s.views id (Reader h') }) (sym (set-get_or s.words 0 0))
+            (reader_step s q id h h' s.words at' refl refl (record {
+              told = mine.told;
+              past = omega arith;
+              recent = λ (v : ℕ) e. let is_v : version_in w ≡ v = cc in omega arith;
+              borne = mine.borne;
+              agrees = record {
+                looks = All-append (HasVersion a.history) h.notes.looks (version_in w ∷ []) mine.agrees.looks (all_one (HasVersion a.history) (version_in w) (last.0, last.1, last.3, last.4 ∙ sym now));
+                takes = mine.agrees.takes;
+                held = mine.agrees.held;
+              };
+            })
+            (λ i l. refl)
+            (q.current ∙ ap (current_word a.version a.slot a.root) (sym (same a.slot))) q.fresh
+            (λ k l ne. q.leavers k l ne ∙ ap (λ (n : ℕ). get_or s.words (k + 1) 0 + n) (sym (same k)))
+            (λ k ne. let e = same k in omega arith)),
+        (refl, omega arith),
+      )
+
+  pub takes : (slots id : ℕ) (me : Seated) → me.0 ≡ Reader (hold_of me.0) → (hold_of me.0).notes.held ≡ None → Allows (Registered key) slots id me 0 (λ n. (n + 1) % 2 ^ 64) (took (step slots 0 1 0 none) me)
+  takes slots id me is out s q deep at small =
+      let h : Hold = hold_of me.0 in
+      let at' : get_elem? s.views id ≡ some (Reader h) = at ∙ ap some is in
+      let w : ℕ = get_or s.words 0 0 in
+      let h' : Hold = after_take h w in
+      let a : Account = q.account in
+      let vs : List View = set s.views id (Reader h') in
+      let now : version_in w ≡ a.version = version-now s q in
+      let there : slot_in w ≡ a.slot = slot-now s q in
+      let root : root_in w ≡ a.root = root-now s q in
+      let mine = q.each_seat id (Reader h) at' in
+      let past : h.notes.seen ≤ a.version = mine.past in
+      let ranges = q.ranges in
+      let few = q.few in
+      let none_yet : (k : ℕ) → grip_of k h ≡ 0 = λ k. ap (λ (o : Option Taken). grips k o h.slot) out in
+      let here : holding a.slot vs ≡ holding a.slot s.views + 1 =
+      let e = total-set (passes (grip_of a.slot)) s.views id (Reader h) (Reader h') at' in let n = none_yet a.slot in let b : grip_of a.slot h' ≡ 1 = ap bit (eq-eqb (slot_in w) a.slot there) in omega arith in
+      let else : (k : ℕ) → k ≢ a.slot → holding k vs ≡ holding k s.views = λ k ne.
+      let e = total-set (passes (grip_of k)) s.views id (Reader h) (Reader h') at' in let n = none_yet k in let b : grip_of k h' ≡ 0 = ap bit (ne_eqb (slot_in w) k (λ t. ne (sym t ∙ there))) in omega arith in
+      let count = count-le s q a.slot in
+      let cur : w ≡ current_word a.version a.slot a.root (holding a.slot s.views) = q.current in
+      let next : (w + 1) % 2 ^ 64 ≡ current_word a.version a.slot a.root (holding a.slot vs) = omega arith in
+      let last = q.history.latest in
+      let t : Taken = record { version = version_in w; root = root_in w } in
+      let had : HasTaken a.history t = (last.0, last.1, last.3, last.4 ∙ sym now, last.5 ∙ sym root) in
+      let bears : (slot_at a (slot_in w)).version ≡ version_in w = ap (λ (k : ℕ). (slot_at a k).version) there ∙ (q.bears ∙ sym now) in (
+        Reader h',
+        keeps,
+        tt,
+        reader_step s q id h h' (set s.words 0 ((w + 1) % 2 ^ 64)) at' (length-set s.words 0 ((w + 1) % 2 ^ 64)) refl
+            (record {
+              told = mine.told;
+              past = omega arith;
+              recent = λ (v : ℕ) e. absurd (none_some v e);
+              borne = λ (g : Taken) e. let same : t ≡ g = cc in subst (λ (z : Taken). (slot_in w < key.sizes.readers + 2) × ((slot_at a (slot_in w)).version ≡ z.version)) same (omega arith, bears);
+              agrees = record {
+                looks = mine.agrees.looks;
+                takes = All-append (HasTaken a.history) h.notes.takes (t ∷ []) mine.agrees.takes (all_one (HasTaken a.history) t had);
+                held = λ (g : Taken) e. let same : t ≡ g = cc in subst (HasTaken a.history) same had;
+              };
+            })
+            (λ i l. get_or-set_other s.words 0 i ((w + 1) % 2 ^ 64) 0 (omega arith))
+            (get_or-set_same s.words 0 ((w + 1) % 2 ^ 64) 0 (word-there s q 0 (omega arith)) ∙ next)
+            (get_or-set_other s.words 0 (a.slot + 1) ((w + 1) % 2 ^ 64) 0 (omega arith) ∙ q.fresh)
+            (λ k l ne. q.leavers k l ne ∙ cc (else k ne, get_or-set_other s.words 0 (k + 1) ((w + 1) % 2 ^ 64) 0 (omega arith)))
+            (λ k ne. let e = else k ne in omega arith),
+        (refl, omega arith, (let n : h.notes.sizes.readers ≡ key.sizes.readers = ap (λ z. z.readers) mine.told in omega arith)),
+      )
+
+  leaves_one : (slots id : ℕ) (me : Seated) (t : Taken) (v : ℕ) → me.0 ≡ Reader (hold_of me.0) → (hold_of me.0).notes.held ≡ Some t → (hold_of me.0).notes.latest ≡ Some v → t.version < v
+      → Allows (Registered key) slots id me ((hold_of me.0).slot + 1) (λ n. (n + 1) % 2 ^ 64) (left (step slots ((hold_of me.0).slot + 1) 1 0 none) me)
+  leaves_one slots id me t v is has saw newer s q deep at small =
+      let h : Hold = hold_of me.0 in
+      let at' : get_elem? s.views id ≡ some (Reader h) = at ∙ ap some is in
+      let w : ℕ = get_or s.words (h.slot + 1) 0 in
+      let h' : Hold = after_leave h in
+      let a : Account = q.account in
+      let vs : List View = set s.views id (Reader h') in
+      let mine = q.each_seat id (Reader h) at' in
+      let past : v ≤ a.version = mine.recent v saw in
+      let borne = mine.borne t has in
+      let bears = q.bears in
+      let apart : h.slot ≢ a.slot = λ same. let e : t.version ≡ a.version = sym borne.1 ∙ (ap (λ (k : ℕ). (slot_at a k).version) same ∙ bears) in omega arith in
+      let before : (k : ℕ) → grip_of k h ≡ bit (eqb h.slot k) = λ k. ap (λ (o : Option Taken). grips k o h.slot) has in
+      let here : holding h.slot vs + 1 ≡ holding h.slot s.views =
+      let e = total-set (passes (grip_of h.slot)) s.views id (Reader h) (Reader h') at' in let b = before h.slot ∙ ap bit (eq-eqb h.slot h.slot refl) in omega arith in
+      let else : (k : ℕ) → k ≢ h.slot → holding k vs ≡ holding k s.views = λ k ne.
+      let e = total-set (passes (grip_of k)) s.views id (Reader h) (Reader h') at' in let b = before k ∙ ap bit (ne_eqb h.slot k (λ t. ne (sym t))) in omega arith in
+      let leavers = q.leavers h.slot borne.0 apart in
+      let few = q.few in
+      let low = q.starts h.slot in
+      let next : (w + 1) % 2 ^ 64 ≡ w + 1 = omega arith in
+      let inside = borne.0 in (
+        Reader h',
+        keeps,
+        tt,
+        reader_step s q id h h' (set s.words (h.slot + 1) ((w + 1) % 2 ^ 64)) at' (length-set s.words (h.slot + 1) ((w + 1) % 2 ^ 64)) refl
+            (record {
+              told = mine.told;
+              past = mine.past;
+              recent = mine.recent;
+              borne = λ (g : Taken) e. absurd (none_some g e);
+              agrees = record { looks = mine.agrees.looks; takes = mine.agrees.takes; held = λ (g : Taken) e. absurd (none_some g e) };
+            })
+            (λ i l. get_or-set_other s.words (h.slot + 1) i ((w + 1) % 2 ^ 64) 0 (omega arith))
+            (get_or-set_other s.words (h.slot + 1) 0 ((w + 1) % 2 ^ 64) 0 (omega arith) ∙ (q.current ∙ ap (current_word a.version a.slot a.root) (sym (else a.slot (λ e. apart (sym e))))))
+            (get_or-set_other s.words (h.slot + 1) (a.slot + 1) ((w + 1) % 2 ^ 64) 0 (λ e. apart (omega arith)) ∙ q.fresh)
+            (λ k l ne. dite (ℕ_discrete k h.slot)
+            (λ (e : k ≡ h.slot). subst (λ (j : ℕ). (slot_at a j).start ≡ get_or (set s.words (h.slot + 1) ((w + 1) % 2 ^ 64)) (j + 1) 0 + holding j vs) (sym e)
+            (let same = get_or-set_same s.words (h.slot + 1) ((w + 1) % 2 ^ 64) 0 (word-there s q (h.slot + 1) (omega arith)) in omega arith))
+            (λ (e : k ≢ h.slot). let other = get_or-set_other s.words (h.slot + 1) (k + 1) ((w + 1) % 2 ^ 64) 0 (λ t. e (omega arith)) in let f = else k e in let g = q.leavers k l ne in omega arith))
+            (λ k ne. dite (ℕ_discrete k h.slot)
+            (λ (e : k ≡ h.slot). subst (λ (j : ℕ). holding j vs ≤ holding j s.views) (sym e) (omega arith))
+            (λ (e : k ≢ h.slot). let f = else k e in omega arith)),
+        refl,
+      )
+
+  pub leaves : (slots id : ℕ) (me : Seated) → me.0 ≡ Reader (hold_of me.0) → (o : Option Taken) (l : Option ℕ) → (hold_of me.0).notes.held ≡ o → (hold_of me.0).notes.latest ≡ l
+      → IsSomeAnd o (λ t. IsSomeAnd l (λ v. t.version < v))
+      → Allows (Registered key) slots id me ((hold_of me.0).slot + 1) (λ n. (n + 1) % 2 ^ 64) (left (step slots ((hold_of me.0).slot + 1) 1 0 none) me)
+  leaves slots id me is None l has saw newer = absurd newer
+  leaves slots id me is (Some t) None has saw newer = absurd newer
+  leaves slots id me is (Some t) (Some v) has saw newer = leaves_one slots id me t v is has saw newer

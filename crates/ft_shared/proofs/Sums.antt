@@ -1,0 +1,183 @@
+-- Sums over the views and over the slots, and the numbers in the word CURRENT.
+use Rattle.std.proofs.Common.{◌≡◌, ◌≢◌, ℕ, zero, suc, ◌+◌, ◌<◌, ◌≤◌, ◌==◌, Bool, true, false, List, [], ◌∷◌, ◌++◌, length, get_or, set, sym, refl, ap, arith, Option, Some, None, All, eq-eqb, ne_eqb, ltb, lt-ltb, le-ltb}
+use Rattle.std.proofs.lemmas.Bool.Decides.{nat_tests}
+use mathlib.Core.Option.{some, some-injective, some-ne-none}
+use mathlib.Core.Logic.{dite}
+use native.Mathlib.Decide.{ℕ_discrete}
+use lib.ListN.{get_elem?}
+use Rattle.ft_shared.specs.declared.law.Taken.{Taken}
+use Rattle.ft_shared.specs.declared.law.View.{View}
+use Rattle.ft_shared.specs.declared.law.View.TheVariants.{Spent, Reader, Writer}
+use Rattle.ft_shared.specs.Layout.{current_word, version_in, slot_in, root_in, count_in}
+use Rattle.ft_shared.specs.Counts.{bit, total, upto, passes, one, grips, grip_of, holding}
+use Rattle.ft_shared.specs.Register.{amount}
+
+module _ {A : Type 0} where
+  pub total-set : (f : A → ℕ) (l : List A) (i : ℕ) (v w : A) → get_elem? l i ≡ some v → total f (set l i w) + f v ≡ total f l + f w
+  total-set f [] i v w e = absurd (some-ne-none v (sym e))
+  total-set f (x ∷ xs) zero v w e = let is : f x ≡ f v = ap f (some-injective x v e) in omega arith
+  total-set f (x ∷ xs) (suc i) v w e = let r = total-set f xs i v w e in omega arith
+
+  pub total-append : (f : A → ℕ) (l m : List A) → total f (l ++ m) ≡ total f l + total f m
+  total-append f [] m = omega arith
+  total-append f (x ∷ xs) m = let r = total-append f xs m in omega arith
+
+  pub total-le : (f g : A → ℕ) → ((v : A) → f v ≤ g v) → (l : List A) → total f l ≤ total g l
+  total-le f g le [] = omega arith
+  total-le f g le (x ∷ xs) = let a = le x in let b = total-le f g le xs in omega arith
+
+  -- one element's share of a sum
+  pub at-le : (f : A → ℕ) (l : List A) (i : ℕ) (v : A) → get_elem? l i ≡ some v → f v ≤ total f l
+  at-le f [] i v e = absurd (some-ne-none v (sym e))
+  at-le f (x ∷ xs) zero v e = let is : f x ≡ f v = ap f (some-injective x v e) in omega arith
+  at-le f (x ∷ xs) (suc i) v e = let r = at-le f xs i v e in omega arith
+
+  pub index-le : (f : A → ℕ) (l : List A) (i : ℕ) (d : A) → i < length l → f (get_or l i d) ≤ total f l
+  index-le f [] i d h = absurd (omega arith)
+  index-le f (x ∷ xs) zero d h = omega arith
+  index-le f (x ∷ xs) (suc i) d h = let r = index-le f xs i d (omega arith) in omega arith
+
+  pub all_one : (P : A → Type 0) (x : A) → P x → All P (x ∷ [])
+  all_one P x p zero d h = p
+  all_one P x p (suc k) d h = absurd (omega arith)
+
+  -- what the new element has of g, the old one had
+  pub set-keeps : {B : Type 0} (g : A → B) (l : List A) (k : ℕ) (d y : A) → g y ≡ g (get_or l k d) → (j : ℕ) → g (get_or (set l k y) j d) ≡ g (get_or l j d)
+  set-keeps g [] k d y e j = refl
+  set-keeps g (x ∷ xs) zero d y e zero = e
+  set-keeps g (x ∷ xs) zero d y e (suc j) = refl
+  set-keeps g (x ∷ xs) (suc k) d y e zero = refl
+  set-keeps g (x ∷ xs) (suc k) d y e (suc j) = set-keeps g xs k d y e j
+
+bit-le : (b : Bool) → bit b ≤ 1
+bit-le true = omega arith
+bit-le false = omega arith
+
+-- a pass holds one slot at most
+grips-le : (k slot : ℕ) (o : Option Taken) → grips k o slot ≤ 1
+grips-le k slot None = omega arith
+grips-le k slot (Some t) = bit-le (slot == k)
+
+pub passes-le : (k : ℕ) (v : View) → passes (grip_of k) v ≤ passes one v
+passes-le k Spent = omega arith
+passes-le k (Reader h) = grips-le k h.slot h.notes.held
+passes-le k (Writer a) = total-le (grip_of k) one (λ h. grips-le k h.slot h.notes.held) a.settled
+
+pub version-of : (v k r n : ℕ) → k < 256 → r < 65536 → n < 256 → version_in (current_word v k r n) ≡ v
+version-of v k r n a b c = omega arith
+
+pub slot-of : (v k r n : ℕ) → k < 256 → r < 65536 → n < 256 → slot_in (current_word v k r n) ≡ k
+slot-of v k r n a b c = omega arith
+
+pub root-of : (v k r n : ℕ) → k < 256 → r < 65536 → n < 256 → root_in (current_word v k r n) ≡ r
+root-of v k r n a b c = omega arith
+
+pub count-of : (v k r n : ℕ) → n < 256 → count_in (current_word v k r n) ≡ n
+count-of v k r n c = omega arith
+
+-- one more pass is made, with the next number
+pub numbers-more : (n g : ℕ) → bit (g == n) + bit (ltb n g) ≡ bit (ltb n (g + 1))
+numbers-more n g = dite (ℕ_discrete g n)
+    (λ (h : g ≡ n).
+    let e : bit (g == n) ≡ 1 = ap bit (eq-eqb g n h) in
+    let l : bit (ltb n g) ≡ 0 = ap bit (le-ltb n g (omega arith)) in
+    let m : bit (ltb n (g + 1)) ≡ 1 = ap bit (lt-ltb n (g + 1) (omega arith)) in omega arith)
+    (λ (h : g ≢ n).
+    let e : bit (g == n) ≡ 0 = ap bit (ne_eqb g n h) in
+    let l : bit (ltb n g) ≡ bit (ltb n (g + 1)) = ap bit (next-other g n h) in omega arith)
+  where
+    next-other : (g n : ℕ) → g ≢ n → ltb n g ≡ ltb n (g + 1)
+    next-other g n h = grind (arith, nat_tests)
+
+pub bit-zero : (n : ℕ) → bit (ltb n 0) ≡ 0
+bit-zero n = ap bit (le-ltb n 0 (omega arith))
+
+pub amount-le : (here free met : Bool) (m n : ℕ) → (here ≡ false → m ≤ n) → amount here free met m ≤ amount here free met n
+amount-le true free met m n h = omega arith
+amount-le false true met m n h = omega arith
+amount-le false false true m n h = omega arith
+amount-le false false false m n h = h refl
+
+pub amount-new : (here free : Bool) (n : ℕ) → amount here free false n ≤ n
+amount-new true free n = omega arith
+amount-new false true n = omega arith
+amount-new false false n = omega arith
+
+pub amount-here : (here free met : Bool) (m n : ℕ) → here ≡ true → amount here free met m ≤ n
+amount-here true free met m n e = omega arith
+amount-here false free met m n e = absurd (no e)
+  where
+    no : false ≡ true → ⊥
+    no e = cc
+
+pub amount-scan : (b f : Bool) (h : ℕ) → (b ≡ false → 0 < h) → (f ≡ true → h ≡ 0) → amount false b true h ≤ amount false f false h
+amount-scan true f h p q = omega arith
+amount-scan false true h p q = let a = p refl in let b = q refl in absurd (omega arith)
+amount-scan false false h p q = let a = p refl in omega arith
+
+pub amount-met : (here free : Bool) (m n : ℕ) → amount here free true m ≤ amount here free true n
+amount-met true free m n = omega arith
+amount-met false true m n = omega arith
+amount-met false false m n = omega arith
+
+pub ltb-next : (k n : ℕ) → k ≢ n → ltb k (n + 1) ≡ ltb k n
+ltb-next k n ne = grind (arith, nat_tests)
+
+pub upto-le : (f g : ℕ → ℕ) (n : ℕ) → ((k : ℕ) → k < n → f k ≤ g k) → upto f n ≤ upto g n
+unfolding upto
+upto-le f g zero h = omega arith
+upto-le f g (suc n) h = let a = h n (omega arith) in let b = upto-le f g n (λ k l. h k (omega arith)) in omega arith
+
+upto-add : (f g : ℕ → ℕ) (n : ℕ) → upto (λ k. f k + g k) n ≡ upto f n + upto g n
+unfolding upto
+upto-add f g zero = refl
+upto-add f g (suc n) = let a = upto-add f g n in omega arith
+
+upto-zero : (f : ℕ → ℕ) (n : ℕ) → ((k : ℕ) → k < n → f k ≡ 0) → upto f n ≡ 0
+unfolding upto
+upto-zero f zero h = refl
+upto-zero f (suc n) h = let a = h n (omega arith) in let b = upto-zero f n (λ k l. h k (omega arith)) in omega arith
+
+upto-total : {A : Type 0} (f : ℕ → A → ℕ) (g : A → ℕ) (n : ℕ) → ((a : A) → upto (λ k. f k a) n ≤ g a) → (xs : List A) → upto (λ k. total (f k) xs) n ≤ total g xs
+upto-total f g n h [] = let z = upto-zero (λ k. total (f k) []) n (λ k l. refl) in omega arith
+upto-total f g n h (x ∷ xs) = let a = upto-add (λ k. f k x) (λ k. total (f k) xs) n in let b = h x in let c = upto-total f g n h xs in omega arith
+
+one-slot : (slot n : ℕ) → upto (λ k. bit (slot == k)) n ≤ bit (ltb slot n)
+unfolding upto
+one-slot slot zero = omega arith
+one-slot slot (suc n) = let a = one-slot slot n in dite (ℕ_discrete slot n)
+    (λ (h : slot ≡ n).
+    let lt : slot < suc n = omega arith in
+    let le : n ≤ slot = omega arith in
+    let e : bit (slot == n) ≡ 1 = ap bit (eq-eqb slot n h) in
+    let l : bit (ltb slot (suc n)) ≡ 1 = ap bit (lt-ltb slot (suc n) lt) in
+    let m : bit (ltb slot n) ≡ 0 = ap bit (le-ltb slot n le) in omega arith)
+    (λ (h : slot ≢ n).
+    let e : bit (slot == n) ≡ 0 = ap bit (ne_eqb slot n h) in
+    let l : bit (ltb slot n) ≤ bit (ltb slot (suc n)) = grind (arith, nat_tests) in omega arith)
+
+grips-upto : (n slot : ℕ) (o : Option Taken) → upto (λ k. grips k o slot) n ≤ 1
+grips-upto n slot None = let z = upto-zero (λ k. 0) n (λ k l. refl) in omega arith
+grips-upto n slot (Some t) = let a = one-slot slot n in let b = bit-le (ltb slot n) in omega arith
+
+passes-upto : (n : ℕ) (v : View) → upto (λ k. passes (grip_of k) v) n ≤ passes one v
+passes-upto n Spent = let z = upto-zero (λ k. 0) n (λ k l. refl) in omega arith
+passes-upto n (Reader h) = grips-upto n h.slot h.notes.held
+passes-upto n (Writer a) = upto-total grip_of one n (λ h. grips-upto n h.slot h.notes.held) a.settled
+
+-- the passes that hold a slot are at most the passes
+pub holding-upto : (n : ℕ) (vs : List View) → upto (λ k. holding k vs) n ≤ total (passes one) vs
+holding-upto n vs = upto-total (λ k v. passes (grip_of k) v) (passes one) n (passes-upto n) vs
+
+all-but-none : (f : ℕ → ℕ) (s n : ℕ) → n ≤ s → ((k : ℕ) → k < n → k ≢ s → f k ≡ 1) → upto f n ≡ n
+unfolding upto
+all-but-none f s zero l h = refl
+all-but-none f s (suc n) l h = let a = h n (omega arith) (λ e. omega arith) in let b = all-but-none f s n (omega arith) (λ k m ne. h k (omega arith) ne) in omega arith
+
+-- where all but one of n count 1, they count n - 1 at least
+pub all-but-one : (f : ℕ → ℕ) (s n : ℕ) → ((k : ℕ) → k < n → k ≢ s → f k ≡ 1) → n ≤ upto f n + 1
+unfolding upto
+all-but-one f s zero h = omega arith
+all-but-one f s (suc n) h = dite (ℕ_discrete n s)
+    (λ (e : n ≡ s). let b = all-but-none f s n (omega arith) (λ k l ne. h k (omega arith) ne) in omega arith)
+    (λ (e : n ≢ s). let a = h n (omega arith) e in let b = all-but-one f s n (λ k l ne. h k (omega arith) ne) in omega arith)

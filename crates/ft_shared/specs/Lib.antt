@@ -1,0 +1,8 @@
+pub mod Layout
+pub mod Counts
+pub mod History
+pub mod Account
+pub mod Register
+pub mod Plays
+pub mod Pass
+pub mod Inner

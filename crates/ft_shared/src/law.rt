@@ -1,0 +1,134 @@
+//! What the table is told once, what each seat knows, and the rule.
+//!
+//! Of `Sizes`, `Opening` and `Slot` values are made. The other types are for contracts
+//! alone: a clause reads an array in them as a list of any length.
+
+use atomic_table::{Seat, Table, TableRule};
+use std::alloc::Global;
+use std::snapshot::Snapshot;
+
+/// How large a register is.
+#[derive(Clone, Copy)]
+pub struct Sizes {
+    /// Segments of the pool, of 256 words each.
+    pub segments: u64,
+    /// Reader's passes, 1 to 8.
+    pub readers: u64,
+    /// Channels, 1 to 32: each reader has a pin word for each.
+    pub channels: u64,
+}
+
+/// What the table is told when it is made: its sizes, the first version with its root,
+/// and its words.
+#[derive(Drop)]
+pub(crate) struct Opening {
+    pub sizes: Sizes,
+    pub version: u64,
+    pub root: u64,
+    pub words: Snapshot<Vec<u64>>,
+}
+
+/// A version of the history: its root segment, and the words of the whole pool as they
+/// were when it was published.
+pub struct PlacedVersion {
+    pub version: u64,
+    pub root: u64,
+    pub pool: [u64; 0],
+}
+
+/// A version that was taken, and its root segment.
+pub struct Taken {
+    pub version: u64,
+    pub root: u64,
+}
+
+/// A word that was read of a held version: by the pin of this root, if by one.
+pub struct Read {
+    pub version: u64,
+    pub pin: Option<u64>,
+    pub segment: u64,
+    pub at: u64,
+    pub word: u64,
+}
+
+/// What contracts see of a reader's pass.
+pub struct Notes {
+    pub sizes: Sizes,
+    /// The pass's number, below the number of readers.
+    pub number: u64,
+    /// The version that it holds.
+    pub held: Option<Taken>,
+    /// What its latest look since the take gave.
+    pub latest: Option<u64>,
+    /// The greatest version that it has seen.
+    pub seen: u64,
+    /// Its looks, takes and reads, each list in the order of the calls.
+    pub looks: [u64; 0],
+    pub takes: [Taken; 0],
+    pub reads: [Read; 0],
+}
+
+/// A reader's notes, and the slot that bears the version that it holds.
+pub struct Hold {
+    pub notes: Notes,
+    pub slot: u64,
+}
+
+/// What the writer knows of a slot.
+#[derive(Clone, Copy)]
+pub struct Slot {
+    /// The version that it bears, or bore last.
+    pub version: u32,
+    /// How many readers had taken that version when the next one was published.
+    pub start: u8,
+    /// Whether a scan found it free, and no publish has chosen it since.
+    pub free: bool,
+}
+
+/// What contracts see of the writer's pass.
+pub struct Account {
+    pub sizes: Sizes,
+    /// How many readers' passes were made.
+    pub given: u64,
+    /// The current version, its slot and its root segment.
+    pub version: u64,
+    pub slot: u64,
+    pub root: u64,
+    pub slots: [Slot; 0],
+    /// Whether a scan has begun since the last publish, how many were begun in all,
+    /// and the answers of this one: for each slot a version, or none where it was free.
+    pub begun: bool,
+    pub scans: u64,
+    pub scan: [Option<u64>; 0],
+    /// The leavers that the latest step of a scan has loaded.
+    pub gone: u64,
+    /// What the readers held and had noted that have given up their passes.
+    pub settled: [Hold; 0],
+    /// The versions from the opening on.
+    pub history: [PlacedVersion; 0],
+    /// The words of the pool as they were last written.
+    pub pool: [u64; 0],
+}
+
+/// What a seat of the table knows.
+pub(crate) enum View {
+    Spent,
+    Reader(Hold),
+    Writer(Account),
+}
+
+pub(crate) struct Law;
+
+impl TableRule<(), View, Opening> for Law {
+    ghost use Rattle.ft_shared.specs.Account.{first_account};
+    ghost use Rattle.ft_shared.specs.Register.{Registered};
+    ghost use Rattle.ft_shared.specs.declared.law.View.TheVariants.{Writer};
+
+    ghost holds = { Registered };
+
+    ghost first = { λ key. Writer (first_account key) };
+}
+
+pub(crate) type Words = Table<(), View, Opening, Law, Global>;
+
+pub(crate) type Place = Seat<(), View>;

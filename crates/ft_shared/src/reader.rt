@@ -1,0 +1,97 @@
+//! A reader: it looks at the current version, takes it, and leaves it.
+ghost use Rattle.std.specs.Prelude.{◌≡◌, ℕ, ◌≤◌, ◌<◌, ◌+◌, [], None, IsSomeAnd};
+ghost use Rattle.ft_shared.specs.Account.{hold_of};
+ghost use Rattle.ft_shared.specs.Pass.{note_look, note_take, note_leave};
+ghost use Rattle.ft_shared.specs.declared.law.View.TheVariants.{Reader};
+
+use crate::law::Place;
+use crate::plays::{Leave, Look, Take};
+use crate::shared::Shared;
+use ft_types::Steps;
+use std::marker::Model;
+use std::sync::ledger::Ledger;
+
+/// What `Shared::take` gives.
+#[derive(Clone, Copy, Debug, PartialEq, Eq)]
+pub struct Held {
+    /// The version that is now held.
+    pub version: u32,
+    /// Its root segment.
+    pub root: u16,
+}
+
+/// One reader. At first it holds no version, has noted nothing and was never used.
+#[derive(Drop)]
+pub struct ReaderPass {
+    place: Place,
+    slot: u8,
+}
+
+impl Model for ReaderPass {
+    ghost use Rattle.ft_shared.specs.Pass.{ReaderState};
+
+    ghost Value = { ReaderState };
+
+    ghost use Rattle.ft_shared.specs.Inner.{reader_state, IsReaderPass};
+
+    ghost view = { reader_state };
+
+    ghost invariant = { IsReaderPass };
+}
+
+impl ReaderPass {
+    pub(crate) fn first(place: Place) -> ReaderPass
+        requires role { place.me ≡ (Reader (hold_of place.me.0), []) }
+        requires new { (hold_of place.me.0).slot ≡ 0 }
+        ensures { result ≡ record { origin = record { table = place.table_id; sizes = (hold_of place.me.0).notes.sizes }; notes = (hold_of place.me.0).notes } }
+    {
+        ReaderPass { place, slot: 0 }
+    }
+}
+
+impl Shared {
+    /// The current version. One load.
+    pub fn look<L: Ledger>(&self, pass: &mut ReaderPass, steps: &mut Steps<L>) -> u32
+        requires same { pass.old.origin ≡ self.now }
+        ensures noted { pass.new ≡ record pass.old { notes = note_look pass.old.notes result } }
+        ensures later { pass.old.notes.seen ≤ result }
+        ensures steps { steps.new ≡ steps.old + 1 }
+    {
+        let word = self.words.shared.load::<Look>(&mut pass.place, 0);
+        steps.tick();
+        (word >> 32) as u32
+    }
+
+    /// The current version with its root, which the pass holds from now on. One
+    /// `fetch_add`.
+    pub fn take<L: Ledger>(&self, pass: &mut ReaderPass, steps: &mut Steps<L>) -> Held
+        requires same { pass.old.origin ≡ self.now }
+        requires free { pass.old.notes.held ≡ None }
+        ensures noted { pass.new ≡ record pass.old { notes = note_take pass.old.notes (record { version = result.version; root = result.root }) } }
+        ensures later { pass.old.notes.seen ≤ result.version }
+        ensures steps { steps.new ≡ steps.old + 1 }
+    {
+        let word = self.words.shared.fetch_add::<Take>(&mut pass.place, 0, 1);
+        pass.slot = ((word >> 24) % 256) as u8;
+        steps.tick();
+        Held {
+            version: (word >> 32) as u32,
+            root: ((word >> 8) % 65536) as u16,
+        }
+    }
+
+    /// Gives up the version that the pass holds. Its latest look since the take must have
+    /// given a greater one. One `fetch_add`.
+    pub fn leave<L: Ledger>(&self, pass: &mut ReaderPass, steps: &mut Steps<L>)
+        requires same { pass.old.origin ≡ self.now }
+        requires newer { IsSomeAnd pass.old.notes.held (λ t. IsSomeAnd pass.old.notes.latest (λ v. t.version < v)) }
+        ensures noted { pass.new ≡ record pass.old { notes = note_leave pass.old.notes } }
+        ensures steps { steps.new ≡ steps.old + 1 }
+    {
+        let gone = pass.slot as usize + 1;
+        self.words
+            .shared
+            .fetch_add::<Leave>(&mut pass.place, gone, 1);
+        steps.tick();
+    }
+}

@@ -1,0 +1,45 @@
+//! The register as all threads see it.
+ghost use Rattle.std.specs.Prelude.{◌≡◌};
+
+use crate::law::Words;
+use std::marker::Model;
+use thiserror::Error;
+
+/// The words that threads share. Contracts see which register it is, and its sizes.
+#[derive(Drop)]
+pub struct Shared {
+    pub(crate) words: Words,
+    pub(crate) segments: u16,
+}
+
+impl Model for Shared {
+    ghost use Rattle.std.specs.Prelude.{◌≡◌};
+    ghost use Rattle.ft_shared.specs.Layout.{word_count};
+    ghost use Rattle.ft_shared.specs.Pass.{Origin};
+
+    ghost Value = { Origin };
+
+    ghost view = { λ s. record { table = s.words.shared.table_id; sizes = s.words.shared.key.sizes } };
+
+    ghost invariant = { λ s. (s.words.shared.table_id.words ≡ word_count s.words.shared.key.sizes) × (s.words.shared.key.sizes.segments ≡ s.segments) };
+}
+
+/// Why `Shared::open` refuses.
+#[derive(Clone, Copy, Debug, PartialEq, Eq, Error)]
+pub enum OpenFault {
+    /// The words need more segments than there are to be.
+    #[error("the words need {need} segments, and there are {segments}")]
+    PoolSmall { need: u32, segments: u16 },
+    /// Memory was wanting. No clause says when.
+    #[error("out of memory")]
+    NoMemory,
+}
+
+impl Shared {
+    /// The number of segments of the pool, 0 to 65,535. It makes no atomic step.
+    pub fn segments(&self) -> u16
+        ensures { result ≡ self.now.sizes.segments }
+    {
+        self.segments
+    }
+}

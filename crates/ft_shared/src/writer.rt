@@ -1,0 +1,140 @@
+//! The writer: it scans the slots for one that no reader holds, and publishes the next
+//! version in it.
+ghost use Rattle.std.specs.Prelude.{◌≡◌, ◌≢◌, ℕ, ◌+◌, ◌-◌, ◌<◌, ◌≤◌, ◌↔◌, [], ◌∷◌, ◌++◌, true, false, IsNone, IsSome, IfSome, length, slice_index_or, replicate};
+ghost use Rattle.ft_shared.specs.Account.{account_of, slot_at, no_slot, IsWhole, after_begin, after_scan, answer_of};
+ghost use Rattle.ft_shared.specs.Pass.{Publishes};
+ghost use Rattle.ft_shared.specs.declared.law.View.TheVariants.{Writer};
+
+use crate::law::{Place, Slot};
+use crate::plays::{BeginScan, Clear, Publish, ScanSlot};
+use crate::shared::Shared;
+use std::marker::Model;
+
+/// The writer. There is one, and it needs no lock.
+#[derive(Drop)]
+pub struct WriterPass {
+    place: Place,
+    readers: u8,
+    version: u32,
+    slot: u8,
+    slots: [Slot; 10],
+}
+
+impl Model for WriterPass {
+    ghost use Rattle.ft_shared.specs.Pass.{WriterState};
+
+    ghost Value = { WriterState };
+
+    ghost use Rattle.ft_shared.specs.Inner.{writer_state, IsWriterPass};
+
+    ghost view = { writer_state };
+
+    ghost invariant = { IsWriterPass };
+}
+
+impl WriterPass {
+    pub(crate) fn first(place: Place, readers: u8, version: u32) -> WriterPass
+        requires role { place.me ≡ (Writer (account_of place.me.0), []) }
+        requires readers { (readers ≤ 8) × ((account_of place.me.0).sizes.readers ≡ readers) }
+        requires version { ((account_of place.me.0).version ≡ version) × ((account_of place.me.0).slot ≡ 0) }
+        requires slots { (account_of place.me.0).slots ≡ replicate 10 (record { version = version; start = 0; free = false }) }
+        requires none { (account_of place.me.0).begun ≡ false }
+        ensures { result ≡ record { origin = record { table = place.table_id; sizes = (account_of place.me.0).sizes }; account = account_of place.me.0 } }
+    {
+        let unused = Slot {
+            version,
+            start: 0,
+            free: false,
+        };
+        WriterPass {
+            place,
+            readers,
+            version,
+            slot: 0,
+            slots: [unused; 10],
+        }
+    }
+}
+
+impl Shared {
+    /// Begins a scan by one load of CURRENT.
+    pub fn begin_scan(&self, pass: &mut WriterPass)
+        requires { pass.old.origin ≡ self.now }
+        ensures { pass.new ≡ record pass.old { account = after_begin pass.old.account } }
+    {
+        self.words.shared.load::<BeginScan>(&mut pass.place, 0);
+    }
+
+    /// The version of the slot `k` where it is current or was found held, and `None` where
+    /// it was found free. Slots come in ascending order. One load.
+    ///
+    /// A slot once found free is found free by each later scan, until a publish chooses it.
+    pub fn scan_slot(&self, pass: &mut WriterPass, k: u8) -> Option<u32>
+        requires same { pass.old.origin ≡ self.now }
+        requires begun { pass.old.account.begun ≡ true }
+        requires next { length pass.old.account.scan ≡ k }
+        requires slot { k < self.now.sizes.readers + 2 }
+        ensures none { IsNone result ↔ ((k ≢ pass.old.account.slot) × ((slot_at pass.old.account k).start ≡ pass.new.account.gone)) }
+        ensures some { IfSome result (λ v. v ≡ (slot_at pass.old.account k).version) }
+        ensures free { (slot_at pass.old.account k).free ≡ true → IsNone result }
+        ensures noted { pass.new ≡ record pass.old { account = after_scan pass.old.account pass.new.account.gone } }
+        ensures answer { result ≡ answer_of pass.old.account k pass.new.account.gone }
+    {
+        let index = k as usize;
+        let gone = self
+            .words
+            .shared
+            .load::<ScanSlot>(&mut pass.place, index + 1);
+        let Slot { version, start, .. } = pass.slots[index];
+        let is_free = k != pass.slot && start as u64 == gone;
+        pass.slots[index].free = is_free;
+        if is_free { None } else { Some(version) }
+    }
+
+    /// Makes what was written the next version, with the root segment `root`, and gives its
+    /// number. One store and one swap.
+    ///
+    /// A whole scan always leaves a free slot, so there is no answer for its want.
+    pub fn publish(&self, pass: &mut WriterPass, root: u16) -> u32
+        requires same { pass.old.origin ≡ self.now }
+        requires whole { IsWhole self.now.sizes pass.old.account }
+        requires room { pass.old.account.version < 4294967295 }
+        ensures next { result ≡ pass.old.account.version + 1 }
+        ensures origin { pass.new.origin ≡ pass.old.origin }
+        ensures published { Publishes self.now.sizes pass.old.account pass.new.account root }
+        ensures history { pass.new.account.history ≡ pass.old.account.history ++ record { version = result; root = root; pool = pass.old.account.pool } ∷ [] }
+    {
+        let chosen = first_free(&pass.slots, pass.readers + 2);
+        let index = chosen as usize;
+        let shared = &self.words.shared;
+        shared.store::<Clear>(&mut pass.place, index + 1, 0);
+        let version = pass.version + 1;
+        let word = (version as u64) * 4_294_967_296
+            + (chosen as u64) * 16_777_216
+            + (root as u64) * 256;
+        let found = shared.swap::<Publish>(&mut pass.place, 0, word);
+        pass.slots[pass.slot as usize].start = (found % 256) as u8;
+        pass.slots[index] = Slot {
+            version,
+            start: 0,
+            free: false,
+        };
+        pass.slot = chosen;
+        pass.version = version;
+        version
+    }
+}
+
+/// The first free slot below `count`, of which there is one.
+fn first_free(slots: &[Slot; 10], count: u8) -> u8
+    requires some { (k : ℕ) × (k < count) × ((slice_index_or slots.now k no_slot).free ≡ true) }
+    requires few { count ≤ 10 }
+    ensures { (result < count) × ((slice_index_or slots.now result no_slot).free ≡ true) }
+{
+    for k in 0..count {
+        if slots[k as usize].free {
+            return k;
+        }
+    }
+    unreachable!()
+}
