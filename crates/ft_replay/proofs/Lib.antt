@@ -1,2 +1,4 @@
 pub mod Replays
 pub mod Silence
+pub mod Floor
+pub mod Line

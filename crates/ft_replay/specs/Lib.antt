@@ -4,3 +4,4 @@ pub mod Row
 pub mod Tick
 pub mod Sound
 pub mod Replay
+pub mod Range

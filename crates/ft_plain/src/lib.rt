@@ -1,0 +1,11 @@
+//! Replays plain modules.
+//!
+//! A plain module has linear periods, and notes with set volumes and no effects;
+//! its instruments have at most one narrow sample without a loop. What is
+//! written is what the replay of `ft_replay` says, frame by frame.
+#![tactic(auto)]
+
+mod gain;
+mod pitch;
+mod time;
+mod value;
