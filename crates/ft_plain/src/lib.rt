@@ -6,6 +6,9 @@
 #![tactic(auto)]
 
 mod gain;
+mod part;
 mod pitch;
+mod plain;
+mod row;
 mod time;
 mod value;

@@ -5,3 +5,4 @@ pub mod Tick
 pub mod Sound
 pub mod Replay
 pub mod Range
+pub mod Stands
