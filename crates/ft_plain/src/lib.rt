@@ -6,9 +6,12 @@
 #![tactic(auto)]
 
 mod gain;
+mod hear;
 mod part;
 mod pitch;
+mod place;
 mod plain;
 mod row;
+mod rows;
 mod time;
 mod value;

@@ -74,6 +74,13 @@ fn sounding(song: &Module, part: Part) -> Option<SampleHead>
 }
 
 impl<'a> Plain<'a> {
+    /// The instrument of a number; they count from 1.
+    pub fn instrument(&self, number: u8) -> Option<&Instrument>
+        ensures { option_copied result ≡ instrument_at self.now.song.now number }
+    {
+        instrument(self.song, number)
+    }
+
     /// The number of the pattern at an order position.
     pub fn order(&self, position: u16) -> u8
         ensures { result ≡ order_at self.now.song.now position }

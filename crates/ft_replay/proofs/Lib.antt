@@ -4,3 +4,4 @@ pub mod Floor
 pub mod Line
 pub mod Lanes
 pub mod Begins
+pub mod Rows
