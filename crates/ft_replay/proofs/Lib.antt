@@ -5,3 +5,8 @@ pub mod Line
 pub mod Lanes
 pub mod Begins
 pub mod Rows
+pub mod Pitches
+pub mod Heads
+pub mod Ranges
+pub mod Ticks
+pub mod Totals

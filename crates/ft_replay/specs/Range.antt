@@ -1,5 +1,5 @@
 -- Which states are in range.
-use Rattle.std.specs.Prelude.{ℕ, ◌≡◌, ◌<◌, ◌≤◌, ◌+◌, ◌*◌, ◌/◌, ◌^◌, FitsSigned, Option, Some, length, get_or}
+use Rattle.std.specs.Prelude.{ℕ, ◌≡◌, ◌<◌, ◌≤◌, ◌+◌, ◌*◌, ◌/◌, ◌^◌, FitsSigned, List, Option, Some, length, get_or}
 use Rattle.std.specs.Int.{w8}
 use Rattle.ft_types.specs.declared.voice.SampleHead.{SampleHead}
 use Rattle.ft_types.specs.declared.voice.Voice.{Voice}
@@ -43,6 +43,7 @@ pub record IsChannelInRange (c : ℕ) (channel : Channel) : Type 0 where
 pub record IsControlInRange (control : Control) : Type 0 where
   pub pos : control.pos ≤ 256
   pub row : control.row ≤ 256
+  pub pos_within : 1 ≤ control.tick → control.pos ≤ 255
   pub row_within : 1 ≤ control.tick → control.row ≤ 255
   pub delay : control.delay ≤ 15
   pub global : control.global ≤ 64
@@ -54,10 +55,28 @@ pub record IsControlInRange (control : Control) : Type 0 where
   pub last : control.last_bpm ≤ 255
   pub carry : 1 ≤ control.carry → control.carry < 2 * control.last_bpm
 
+-- the control within a tick, once its place is found
+pub record IsPlaying (control : Control) : Type 0 where
+  pub pos : control.pos ≤ 255
+  pub row : control.row ≤ 255
+  pub delay : control.delay ≤ 15
+  pub global : control.global ≤ 64
+  pub some_tempo : 1 ≤ control.tempo
+  pub tempo : control.tempo ≤ 31
+  pub tick : control.tick < control.tempo * (1 + control.delay)
+  pub slow : 32 ≤ control.bpm
+  pub fast : control.bpm ≤ 255
+  pub last : control.last_bpm ≤ 255
+  pub carry : 1 ≤ control.carry → control.carry < 2 * control.last_bpm
+
 -- ---- the whole state
+
+-- each lane's channel is in range
+abbrev pub AreInRange : List Lane → Type 0
+AreInRange lanes = (c : ℕ) → c < length lanes → IsChannelInRange c (get_or lanes c blank_lane).channel
 
 -- a song of so many channels
 pub record IsInRange (channels : ℕ) (state : Song) : Type 0 where
   pub control : IsControlInRange state.control
   pub many : length state.lanes ≡ channels
-  pub lanes : (c : ℕ) → c < channels → IsChannelInRange c (get_or state.lanes c blank_lane).channel
+  pub lanes : AreInRange state.lanes
