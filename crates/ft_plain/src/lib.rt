@@ -13,5 +13,6 @@ mod place;
 mod plain;
 mod row;
 mod rows;
+mod tick;
 mod time;
 mod value;

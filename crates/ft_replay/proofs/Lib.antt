@@ -10,3 +10,4 @@ pub mod Heads
 pub mod Ranges
 pub mod Ticks
 pub mod Totals
+pub mod Making
