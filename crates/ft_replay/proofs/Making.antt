@@ -8,7 +8,7 @@ use Rattle.ft_replay.specs.declared.state.Channel.{Channel}
 use Rattle.ft_replay.specs.declared.state.Control.{Control}
 use Rattle.ft_replay.specs.State.{Lane, Song, blank_lane, blank_channel}
 use Rattle.ft_replay.specs.Pitch.{carried}
-use Rattle.ft_replay.specs.Range.{IsChannelInRange, IsPlaying, AreInRange}
+use Rattle.ft_replay.specs.Range.{IsChannelInRange, IsLaneInRange, IsPlaying, AreInRange}
 use Rattle.ft_replay.specs.Row.{with_channel}
 use Rattle.ft_replay.specs.Stands.{Made, song_of, lanes_of}
 use Rattle.ft_replay.specs.Tick.{rows_done, heard, placed, tick_made, advanced}
@@ -28,7 +28,7 @@ tick_bound control p =
 pub channels_in_range : (channels : List Channel) (shown : Shown) → AreInRange (lanes_of channels shown.kept)
     → (c : ℕ) → c < length channels → IsChannelInRange c (get_or channels c blank_channel)
 channels_in_range channels shown p c lt =
-    subst (λ (l : Lane). IsChannelInRange c l.channel) (get_or-lanes_of channels shown.kept c blank_channel lt) (p c (omega (arith, length-lanes_of channels shown.kept)))
+    (subst (IsLaneInRange c) (get_or-lanes_of channels shown.kept c blank_channel lt) (p c (omega (arith, length-lanes_of channels shown.kept)))).channel
 
 -- the channels after the rows of a tick
 pub rows_channels : (before after : Shown) (control : Control) (channels channels_after : List Channel) → IsValid before.song

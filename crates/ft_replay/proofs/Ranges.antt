@@ -11,7 +11,7 @@ use Rattle.ft_types.specs.Views.{Owned, begun, head_of, instrument_at}
 use Rattle.ft_replay.specs.declared.state.Channel.{Channel}
 use Rattle.ft_replay.specs.State.{Lane}
 use Rattle.ft_replay.specs.Pitch.{played_note, is_played, linear_period}
-use Rattle.ft_replay.specs.Range.{IsHeadInRange, IsVoiceInRange, IsChannelInRange}
+use Rattle.ft_replay.specs.Range.{IsHeadInRange, IsVoiceInRange, IsChannelInRange, IsLaneInRange, Stands}
 use Rattle.ft_replay.specs.Row.{struck, volume_started, set_anew, sounded, with_channel, named, renewed, levelled_by, silenced, begins, start_frame, is_level, is_note, is_instrument, has_begun, new_voice, with_voice}
 use Rattle.ft_replay.specs.Tick.{cleared, heard, heard_by, heard_voice, heard_gain, heard_period, vibrated, gain_of}
 use Rattle.ft_replay.specs.Sound.{moved, moved_by, moved_voice, is_ended}
@@ -186,3 +186,98 @@ moved_by_in_range frames c (Some voice) lane e p =
 pub moved_in_range : (frames c : ℕ) (lane : Lane) → IsChannelInRange c lane.channel → IsChannelInRange c (moved frames lane).channel
 unfolding moved
 moved_in_range frames c lane p = moved_by_in_range frames c lane.channel.voice lane refl p
+
+-- ---- voices own their samples
+
+voice_kept : (voice : Option Voice) (b : Bool) (x y : Channel) → x.voice ≡ voice → y.voice ≡ voice → (if b then x else y).voice ≡ voice
+voice_kept voice true x y p q = p
+voice_kept voice false x y p q = q
+
+levelled_voice : (by : Option Voice) (channel : Channel) → (levelled_by by channel).voice ≡ channel.voice
+levelled_voice None channel = refl
+levelled_voice (Some voice) channel = refl
+
+anew_voice : (cell : Cell) (channel : Channel) → (set_anew cell channel).voice ≡ channel.voice
+unfolding set_anew
+anew_voice cell channel =
+    let fresh = voice_kept channel.voice (has_begun cell channel || is_instrument cell) (renewed channel) channel refl refl in
+    voice_kept channel.voice (is_instrument cell) _ _ (levelled_voice channel.voice _ ∙ fresh) fresh
+
+volume_voice : (cell : Cell) (channel : Channel) → (volume_started cell channel).voice ≡ channel.voice
+unfolding volume_started
+volume_voice cell channel = voice_kept channel.voice (is_level cell.volume) _ channel refl refl
+
+silenced_stands : (lane : Lane) → Stands (silenced lane)
+silenced_stands lane = λ voice is. absurd cc
+
+begins_stands : (song : Module) (c : ℕ) (cell : Cell) (owned : Option Owned) (lane : Lane) → Stands (begins song c cell 0 owned lane)
+begins_stands song c cell None lane = silenced_stands lane
+begins_stands song c cell (Some owned) lane =
+    let its = head_of owned.sample in
+    cond_both (is_played (played_note cell.note its.relative) && nat_lt 0 its.frames) _ _ Stands
+      (λ is. λ voice here. let same : new_voice c 0 its ≡ voice = cc in ap (λ (v : Voice). Some v.head) same)
+      (λ is. silenced_stands lane)
+
+sounded_stands : (version : ℕ) (song : Module) (c : ℕ) (cell : Cell) (lane : Lane) → Stands lane → Stands (sounded version song c cell lane)
+unfolding sounded
+sounded_stands version song c cell lane p =
+    cond_both (is_note cell) _ lane Stands (λ is. begins_stands song c cell (begun version song lane.channel.instrument (cell.note - 1)) lane) (λ is. p)
+
+-- where the voice stays, what it owns stays its own
+same_stands : (rule : Channel → Channel) (lane : Lane) → (rule lane.channel).voice ≡ lane.channel.voice → Stands lane → Stands (with_channel rule lane)
+same_stands rule lane e p = λ voice is. p voice (sym e ∙ is)
+
+struck_stands : (version : ℕ) (song : Module) (c : ℕ) (cell : Cell) (lane : Lane) → Stands lane → Stands (struck version song c cell lane)
+unfolding struck
+struck_stands version song c cell lane p =
+    let named_lane = same_stands (named cell) lane (voice_kept lane.channel.voice (cell.instrument == 0) _ _ refl refl) p in
+    let lane_sounded = sounded version song c cell (with_channel (named cell) lane) in
+    same_stands (λ (channel : Channel). volume_started cell (set_anew cell channel)) lane_sounded
+      (volume_voice cell (set_anew cell lane_sounded.channel) ∙ anew_voice cell lane_sounded.channel)
+      (sounded_stands version song c cell (with_channel (named cell) lane) named_lane)
+
+vibrated_voice : (instrument : Option Instrument) (channel : Channel) → (vibrated instrument channel).voice ≡ channel.voice
+vibrated_voice None channel = refl
+vibrated_voice (Some instrument) channel = refl
+
+heard_head : (rate global : ℕ) (channel : Channel) (voice : Voice) → (heard_voice rate global channel voice).head ≡ voice.head
+unfolding heard_voice
+heard_head rate global channel voice = refl
+
+heard_by_stands : (rate global : ℕ) (song : Module) (by : Option Voice) (lane : Lane) → lane.channel.voice ≡ by → Stands lane → Stands (with_channel (heard_by rate global song by) lane)
+heard_by_stands rate global song None lane e p = p
+heard_by_stands rate global song (Some by) lane e p = λ voice is.
+    let now : Some (heard_voice rate global lane.channel by) ≡ Some voice =
+        sym (vibrated_voice (instrument_at song lane.channel.instrument) (record lane.channel { voice = Some (heard_voice rate global lane.channel by) })) ∙ is in
+    let same : heard_voice rate global lane.channel by ≡ voice = cc in
+    p by e ∙ ap Some (sym (heard_head rate global lane.channel by) ∙ ap (λ (v : Voice). v.head) same)
+
+heard_stands : (rate global : ℕ) (song : Module) (lane : Lane) → Stands lane → Stands (with_channel (heard rate global song) lane)
+unfolding heard
+heard_stands rate global song lane p = heard_by_stands rate global song lane.channel.voice lane refl p
+
+moved_by_stands : (frames : ℕ) (by : Option Voice) (lane : Lane) → lane.channel.voice ≡ by → Stands lane → Stands (moved_by frames by lane)
+moved_by_stands frames None lane e p = p
+moved_by_stands frames (Some by) lane e p =
+    cond_both (is_ended frames by) _ _ Stands (λ is. silenced_stands lane)
+      (λ is. λ voice here. let same : moved_voice frames by ≡ voice = cc in p by e ∙ ap (λ (v : Voice). Some v.head) same)
+
+-- ---- the same of lanes
+
+pub cleared_lane : (c : ℕ) (lane : Lane) → IsLaneInRange c lane → IsLaneInRange c (with_channel cleared lane)
+cleared_lane c lane p = record { channel = cleared_in_range c lane.channel p.channel; stands = p.stands }
+
+pub struck_lane : (version : ℕ) (song : Module) (c : ℕ) (cell : Cell) (lane : Lane) → IsValid song → IsLaneInRange c lane → IsLaneInRange c (struck version song c cell lane)
+struck_lane version song c cell lane valid p =
+    record { channel = struck_in_range version song c cell lane valid p.channel; stands = struck_stands version song c cell lane p.stands }
+
+pub heard_lane : (rate global : ℕ) (song : Module) (c : ℕ) (lane : Lane) → 8000 ≤ rate → global ≤ 64 → IsLaneInRange c lane → IsLaneInRange c (with_channel (heard rate global song) lane)
+heard_lane rate global song c lane r g p =
+    record { channel = heard_in_range rate global song c lane.channel r g p.channel; stands = heard_stands rate global song lane p.stands }
+
+moved_stands : (frames : ℕ) (lane : Lane) → Stands lane → Stands (moved frames lane)
+unfolding moved
+moved_stands frames lane p = moved_by_stands frames lane.channel.voice lane refl p
+
+pub moved_lane : (frames c : ℕ) (lane : Lane) → IsLaneInRange c lane → IsLaneInRange c (moved frames lane)
+moved_lane frames c lane p = record { channel = moved_in_range frames c lane p.channel; stands = moved_stands frames lane p.stands }

@@ -12,12 +12,12 @@ use Rattle.ft_replay.specs.declared.state.Channel.{Channel}
 use Rattle.ft_replay.specs.declared.state.Control.{Control}
 use Rattle.ft_replay.specs.State.{Lane, Song, Turn, blank_lane}
 use Rattle.ft_replay.specs.Pitch.{tick_frames, tick_room, carried}
-use Rattle.ft_replay.specs.Range.{IsChannelInRange, IsControlInRange, IsPlaying, AreInRange, IsInRange}
+use Rattle.ft_replay.specs.Range.{IsLaneInRange, IsControlInRange, IsPlaying, AreInRange, IsInRange}
 use Rattle.ft_replay.specs.Row.{row_started, row_ticked, with_channel}
 use Rattle.ft_replay.specs.Tick.{Ticked, in_turn, turn_at, starts, goes_on, cleared, rows_done, heard, placed, opened, brought_back, turned_over, next_order, tick_made, seq_tick, advanced}
 use Rattle.ft_replay.specs.Sound.{moved}
 use Rattle.ft_replay.proofs.Heads.{rows_at_bound}
-use Rattle.ft_replay.proofs.Ranges.{struck_in_range, cleared_in_range, heard_in_range, moved_in_range}
+use Rattle.ft_replay.proofs.Ranges.{struck_lane, cleared_lane}
 
 -- ---- where the tick is
 
@@ -145,16 +145,16 @@ pub record IsKept (state after : Song) : Type 0 where
   pub many : length after.lanes ≡ length state.lanes
   pub lanes : AreInRange after.lanes
 
-set_in_range : (lanes : List Lane) (i : ℕ) (new : Lane) → i < length lanes → IsChannelInRange i new.channel → AreInRange lanes
-    → (c : ℕ) → c < length lanes → IsChannelInRange c (get_or (set lanes i new) c blank_lane).channel
+set_in_range : (lanes : List Lane) (i : ℕ) (new : Lane) → i < length lanes → IsLaneInRange i new → AreInRange lanes
+    → (c : ℕ) → c < length lanes → IsLaneInRange c (get_or (set lanes i new) c blank_lane)
 set_in_range lanes i new inside here p c lt = elim (cases_eq c i) [
       inl e ↦
-        subst (λ (k : ℕ). IsChannelInRange k (get_or (set lanes i new) k blank_lane).channel) (sym e)
-          (subst (λ (l : Lane). IsChannelInRange i l.channel) (sym (get_or-set_same lanes i new blank_lane inside)) here)
-    | inr ne ↦ subst (λ (l : Lane). IsChannelInRange c l.channel) (sym (get_or-set_other lanes i c new blank_lane ne)) (p c lt) ]
+        subst (λ (k : ℕ). IsLaneInRange k (get_or (set lanes i new) k blank_lane)) (sym e)
+          (subst (IsLaneInRange i) (sym (get_or-set_same lanes i new blank_lane inside)) here)
+    | inr ne ↦ subst (IsLaneInRange c) (sym (get_or-set_other lanes i c new blank_lane ne)) (p c lt) ]
 
 turns_in_range : (rule : ℕ → Turn → Turn) → ((c : ℕ) (turn : Turn) → (rule c turn).control ≡ turn.control)
-    → ((c : ℕ) (turn : Turn) → IsChannelInRange c turn.lane.channel → IsChannelInRange c (rule c turn).lane.channel)
+    → ((c : ℕ) (turn : Turn) → IsLaneInRange c turn.lane → IsLaneInRange c (rule c turn).lane)
     → (channels : ℕ) (state : Song) → channels ≤ length state.lanes → AreInRange state.lanes → IsKept state (in_turn rule channels state)
 turns_in_range rule same keeps zero state le p = record { control = refl; many = refl; lanes = p }
 turns_in_range rule same keeps (suc channels) state le p =
@@ -170,27 +170,28 @@ turns_in_range rule same keeps (suc channels) state le p =
       lanes = λ c lt. set_in_range mid.lanes channels new inside here before.lanes c (omega (arith, length-set mid.lanes channels new));
     }
 
-pub mapped_in_range : (rule : Lane → Lane) (lanes : List Lane) → ((c : ℕ) (lane : Lane) → IsChannelInRange c lane.channel → IsChannelInRange c (rule lane).channel) → AreInRange lanes
+pub mapped_in_range : (rule : Lane → Lane) (lanes : List Lane) → ((c : ℕ) (lane : Lane) → IsLaneInRange c lane → IsLaneInRange c (rule lane)) → AreInRange lanes
     → AreInRange (map rule lanes)
 mapped_in_range rule lanes keeps p = λ c lt.
     let inside : c < length lanes = omega (arith, length-map lanes rule) in
-    subst (λ (l : Lane). IsChannelInRange c l.channel) (sym (get_or-map rule lanes c blank_lane blank_lane inside)) (keeps c (get_or lanes c blank_lane) (p c inside))
+    subst (IsLaneInRange c) (sym (get_or-map rule lanes c blank_lane blank_lane inside)) (keeps c (get_or lanes c blank_lane) (p c inside))
 
 started_control : (version : ℕ) (song : Module) (c : ℕ) (turn : Turn) → (starts version song c turn).control ≡ turn.control
 unfolding row_started
 started_control version song c turn = refl
 
-started_in_range : (version : ℕ) (song : Module) → IsValid song → (c : ℕ) (turn : Turn) → IsChannelInRange c turn.lane.channel → IsChannelInRange c (starts version song c turn).lane.channel
+started_in_range : (version : ℕ) (song : Module) → IsValid song → (c : ℕ) (turn : Turn) → IsLaneInRange c turn.lane → IsLaneInRange c (starts version song c turn).lane
 unfolding row_started
 started_in_range version song valid c turn p =
-    struck_in_range version song c (cell_at song (order_at song turn.control.pos) turn.control.row c) _ valid
-      (record { vol = p.vol; pan = p.pan; period = p.period; fade = p.fade; voice = p.voice; home = p.home })
+    let q = p.channel in
+    struck_lane version song c (cell_at song (order_at song turn.control.pos) turn.control.row c) _ valid
+      (record { channel = record { vol = q.vol; pan = q.pan; period = q.period; fade = q.fade; voice = q.voice; home = q.home }; stands = p.stands })
 
 later_control : (version : ℕ) (song : Module) (c : ℕ) (turn : Turn) → (goes_on version song c turn).control ≡ turn.control
 unfolding row_ticked
 later_control version song c turn = refl
 
-later_in_range : (version : ℕ) (song : Module) (c : ℕ) (turn : Turn) → IsChannelInRange c turn.lane.channel → IsChannelInRange c (goes_on version song c turn).lane.channel
+later_in_range : (version : ℕ) (song : Module) (c : ℕ) (turn : Turn) → IsLaneInRange c turn.lane → IsLaneInRange c (goes_on version song c turn).lane
 unfolding row_ticked
 later_in_range version song c turn p = p
 
@@ -202,7 +203,7 @@ pub rows_in_range : (version : ℕ) (song : Module) (state : Song) → IsValid s
 unfolding rows_done
 rows_in_range version song state valid p =
     let fresh : Song = record state { lanes = map (with_channel cleared) state.lanes } in
-    let cleared_lanes : AreInRange fresh.lanes = mapped_in_range (with_channel cleared) state.lanes (λ c lane q. cleared_in_range c lane.channel q) p in
+    let cleared_lanes : AreInRange fresh.lanes = mapped_in_range (with_channel cleared) state.lanes (λ c lane q. cleared_lane c lane q) p in
     let as_many : length fresh.lanes ≡ length state.lanes = length-map state.lanes (with_channel cleared) in
     let many = length state.lanes in
     let first = turns_in_range (starts version song) (started_control version song) (started_in_range version song valid) many fresh (omega arith) cleared_lanes in

@@ -10,11 +10,11 @@ use Rattle.ft_types.specs.Valid.{IsValid}
 use Rattle.ft_replay.specs.declared.state.Control.{Control}
 use Rattle.ft_replay.specs.State.{Lane, Song, blank_lane, first_song, first_channel}
 use Rattle.ft_replay.specs.Pitch.{tick_frames, tick_room, carried}
-use Rattle.ft_replay.specs.Range.{IsChannelInRange, IsControlInRange, IsPlaying, AreInRange, IsInRange}
+use Rattle.ft_replay.specs.Range.{IsChannelInRange, IsLaneInRange, IsControlInRange, IsPlaying, AreInRange, IsInRange}
 use Rattle.ft_replay.specs.Row.{with_channel}
 use Rattle.ft_replay.specs.Tick.{Made, Ticked, rows_done, heard, placed, tick_made, seq_tick, advanced}
 use Rattle.ft_replay.specs.Sound.{moved}
-use Rattle.ft_replay.proofs.Ranges.{heard_in_range, moved_in_range}
+use Rattle.ft_replay.proofs.Ranges.{heard_lane, moved_lane}
 use Rattle.ft_replay.proofs.Ticks.{placed_in_range, rows_in_range, mapped_in_range}
 
 -- ---- time
@@ -124,12 +124,12 @@ tick_in_range version song rate channels state valid fast slow p =
     let playing = rows_playing version song state valid p.control p.lanes in
     let rule : Lane → Lane = with_channel (heard rate done.control.global song) in
     let frames = tick_frames rate done.control in
-    let made = mapped_in_range rule done.lanes (λ c lane q. heard_in_range rate done.control.global song c lane.channel fast playing.global q) kept.lanes in
+    let made = mapped_in_range rule done.lanes (λ c lane q. heard_lane rate done.control.global song c lane fast playing.global q) kept.lanes in
     record {
       state = record {
         control = advanced_in_range (carried rate done.control) (carried_in_range rate done.control playing);
         many = length-map (map rule done.lanes) (moved frames) ∙ length-map done.lanes rule ∙ kept.many ∙ p.many;
-        lanes = mapped_in_range (moved frames) (map rule done.lanes) (λ c lane q. moved_in_range frames c lane q) made;
+        lanes = mapped_in_range (moved frames) (map rule done.lanes) (λ c lane q. moved_lane frames c lane q) made;
       };
       some_frames = least_frames rate done.control playing fast;
       few_frames = most_frames rate done.control playing slow;
@@ -168,5 +168,5 @@ first_in_range channels =
         carry = λ some. absurd (omega arith);
       };
       many = length-replicate channels first;
-      lanes = λ c lt. subst (λ (l : Lane). IsChannelInRange c l.channel) (sym (get_or-replicate channels c first blank_lane (omega (arith, length-replicate channels first)))) (first_channel_in_range c);
+      lanes = λ c lt. subst (IsLaneInRange c) (sym (get_or-replicate channels c first blank_lane (omega (arith, length-replicate channels first)))) (record { channel = first_channel_in_range c; stands = λ voice is. absurd cc });
     }

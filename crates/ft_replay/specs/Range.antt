@@ -3,6 +3,7 @@ use Rattle.std.specs.Prelude.{ℕ, ◌≡◌, ◌<◌, ◌≤◌, ◌+◌, ◌*�
 use Rattle.std.specs.Int.{w8}
 use Rattle.ft_types.specs.declared.voice.SampleHead.{SampleHead}
 use Rattle.ft_types.specs.declared.voice.Voice.{Voice}
+use Rattle.ft_types.specs.Views.{head_of_owned}
 use Rattle.ft_replay.specs.declared.state.Channel.{Channel}
 use Rattle.ft_replay.specs.declared.state.Control.{Control}
 use Rattle.ft_replay.specs.State.{Lane, Song, blank_lane}
@@ -36,6 +37,14 @@ pub record IsChannelInRange (c : ℕ) (channel : Channel) : Type 0 where
   pub fade : channel.fade ≤ 32768
   pub voice : (voice : Voice) → channel.voice ≡ Some voice → IsVoiceInRange voice
   pub home : (voice : Voice) → channel.voice ≡ Some voice → voice.channel ≡ c
+
+-- the head of a voice is that of the sample that it owns
+abbrev pub Stands : Lane → Type 0
+Stands lane = (voice : Voice) → lane.channel.voice ≡ Some voice → head_of_owned lane.owned ≡ Some voice.head
+
+pub record IsLaneInRange (c : ℕ) (lane : Lane) : Type 0 where
+  pub channel : IsChannelInRange c lane.channel
+  pub stands : Stands lane
 
 -- ---- the control
 
@@ -71,9 +80,9 @@ pub record IsPlaying (control : Control) : Type 0 where
 
 -- ---- the whole state
 
--- each lane's channel is in range
+-- each lane is in range
 abbrev pub AreInRange : List Lane → Type 0
-AreInRange lanes = (c : ℕ) → c < length lanes → IsChannelInRange c (get_or lanes c blank_lane).channel
+AreInRange lanes = (c : ℕ) → c < length lanes → IsLaneInRange c (get_or lanes c blank_lane)
 
 -- a song of so many channels
 pub record IsInRange (channels : ℕ) (state : Song) : Type 0 where
