@@ -7,12 +7,14 @@
 
 mod gain;
 mod hear;
+mod mix;
 mod part;
 mod pitch;
 mod place;
 mod plain;
 mod row;
 mod rows;
+mod sides;
 mod tick;
 mod time;
 mod value;

@@ -1,0 +1,51 @@
+//! Mixes the voices of a tick.
+
+ghost use Rattle.std.specs.Prelude.{◌≡◌, ◌≤◌, ◌<◌, ◌≤ℤ◌, ◌+ℤ◌, ◌+◌, ◌*◌, ◌^◌, ℕ, pos, negsuc, All, length, get_or, None};
+ghost use Rattle.ft_replay.specs.Sound as sound;
+ghost use Rattle.ft_plain.specs.Mixing as mixing;
+
+use crate::sides::Sides;
+use crate::value::{gained, value_at};
+
+/// A sum with a value, -32,768 to 32,767, added by its gain.
+fn added(sum: i32, value: i32, gain: u32) -> i32
+    requires gain { gain ≤ 65536 }
+    requires value_low { negsuc 32767 ≤ℤ value }
+    requires value_high { value ≤ℤ pos 32767 }
+    requires sum_low { negsuc 999999 ≤ℤ sum }
+    requires sum_high { sum ≤ℤ pos 1000000 }
+    ensures { result ≡ sum +ℤ sound.gained value gain }
+{
+    sum + gained(value, gain)
+}
+
+/// Adds a value, -32,768 to 32,767, to both sides by their gains.
+fn add(sides: &mut Sides, value: i32, left: u32, right: u32)
+    requires left { left ≤ 65536 }
+    requires right { right ≤ 65536 }
+    requires value_low { negsuc 32767 ≤ℤ value }
+    requires value_high { value ≤ℤ pos 32767 }
+    requires room { mixing.IsLoud 31 sides.old }
+    ensures { sides.new ≡ mixing.adding value left right sides.old }
+{
+    sides.left = added(sides.left, value, left);
+    sides.right = added(sides.right, value, right);
+}
+
+/// Adds a narrow sample, from a position on, to the sums of a tick.
+fn add_sample(frames: &[i16], position: u64, step: u64, left: u32, right: u32, sums: &mut [Sides])
+    requires narrow { All (λ frame. (negsuc 127 ≤ℤ frame) × (frame ≤ℤ pos 127)) frames.now }
+    requires left { left ≤ 65536 }
+    requires right { right ≤ 65536 }
+    requires path { position + length sums.old * step < 2 ^ 64 }
+    requires room { All (mixing.IsLoud 31) sums.old }
+    ensures sums { (k : ℕ) → k < length sums.old → get_or sums.new k mixing.silent_sides
+        ≡ mixing.adding (mixing.narrow_value frames.now (position + k * step)) left right (get_or sums.old k mixing.silent_sides) }
+    ensures many { length sums.new ≡ length sums.old }
+{
+    let mut position = position;
+    for sides in sums.iter_mut() {
+        add(sides, value_at(frames, position), left, right);
+        position += step;
+    }
+}
