@@ -3,7 +3,8 @@ use Rattle.std.specs.Prelude.{ℕ, ◌≡◌, ◌≤◌, ◌<◌, ◌+◌, ◌*�
 use Rattle.ft_types.specs.declared.voice.Voice.{Voice}
 use Rattle.ft_types.specs.Views.{Owned}
 use Rattle.ft_replay.specs.Pitch.{floor_div}
-use Rattle.ft_replay.specs.Sound.{between, gained, lane_adds, left_of, right_of}
+use Rattle.ft_replay.specs.Sound.{between, gained, lane_adds, lanes_sum, left_of, right_of}
+use Rattle.ft_replay.specs.State.{Lane}
 use Rattle.ft_plain.specs.declared.sides.Sides.{Sides}
 
 -- the value of a narrow frame; past the end it is silent
@@ -35,3 +36,7 @@ adding value left right sides = record { left = sides.left +ℤ gained value lef
 -- what a channel adds at frame i
 abbrev pub lane_adding : ℕ → Option Owned → Option Voice → Sides → Sides
 lane_adding i owned voice sides = record { left = sides.left +ℤ lane_adds (left_of i) owned voice; right = sides.right +ℤ lane_adds (right_of i) owned voice }
+
+-- the sums of all lanes at frame i
+abbrev pub sides_of : List Lane → ℕ → Sides
+sides_of lanes i = record { left = lanes_sum (left_of i) lanes; right = lanes_sum (right_of i) lanes }

@@ -14,6 +14,7 @@ mod place;
 mod plain;
 mod row;
 mod rows;
+mod settle;
 mod sides;
 mod tick;
 mod time;

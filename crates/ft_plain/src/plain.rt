@@ -1,11 +1,11 @@
 //! What a plain module shows while it plays.
 
-ghost use Rattle.std.specs.Prelude.{◌≡◌, ◌≤◌, ◌<◌, ◌≤ℤ◌, All, pos, negsuc, length, map, get_or, None};
+ghost use Rattle.std.specs.Prelude.{◌≡◌, ◌≤◌, ◌<◌, ◌≤ℤ◌, All, pos, negsuc, length, map, get_or, None, Some, false};
 ghost use Rattle.std.specs.Option.{option_copied};
+ghost use Rattle.ft_types.specs.declared.voice.SampleHead.{SampleHead};
 ghost use Rattle.ft_types.specs.Valid.{IsValid};
 ghost use Rattle.ft_types.specs.Plain.{IsPlainInstrument};
 ghost use Rattle.ft_types.specs.Views.{cell_at, order_at, rows_at, begun, head_of_owned, keeping, instrument_at, number_in, sample_in};
-ghost use Rattle.ft_replay.specs.Range.{IsHeadInRange};
 ghost use Rattle.ft_plain.specs.Shows.{owned_in, shown_of, frames_of};
 
 use crate::part::Part;
@@ -159,6 +159,7 @@ impl<'a> Plain<'a> {
     pub fn frames(&self, channel: u8) -> &[i16]
         requires { channel < 32 }
         ensures value { result.now ≡ frames_of (get_or (shown_of self.now.song.now self.now.kept).kept channel None) }
+        ensures plain { (head : SampleHead) → head_of_owned (get_or (shown_of self.now.song.now self.now.kept).kept channel None) ≡ Some head → head.wide ≡ false }
         ensures narrow { All (λ frame. (negsuc 127 ≤ℤ frame) × (frame ≤ℤ pos 127)) result.now }
     {
         let Some(part) = self.kept[channel as usize] else {

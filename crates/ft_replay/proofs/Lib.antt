@@ -11,3 +11,4 @@ pub mod Ranges
 pub mod Ticks
 pub mod Totals
 pub mod Making
+pub mod Sums
