@@ -12,3 +12,5 @@ pub mod Ticks
 pub mod Totals
 pub mod Making
 pub mod Sums
+pub mod Seats
+pub mod Sounds

@@ -114,6 +114,23 @@ pub rows_playing : (version : ℕ) (song : Module) (state : Song) → IsValid so
 rows_playing version song state valid control lanes =
     subst IsPlaying (sym (rows_in_range version song (record state { control = placed song state.control }) valid lanes).control) (placed_in_range song state.control valid control)
 
+-- the lanes of a tick, with its voices at their first frame
+pub made_in_range : (version : ℕ) (song : Module) (rate channels : ℕ) (state : Song) → IsValid song → 8000 ≤ rate → IsInRange channels state
+    → AreInRange (tick_made version song rate state).state.lanes
+unfolding tick_made
+made_in_range version song rate channels state valid fast p =
+    let done = rows_done version song (record state { control = placed song state.control }) in
+    let kept = rows_in_range version song (record state { control = placed song state.control }) valid p.lanes in
+    let playing = rows_playing version song state valid p.control p.lanes in
+    mapped_in_range (with_channel (heard rate done.control.global song)) done.lanes (λ c lane q. heard_lane rate done.control.global song c lane fast playing.global q) kept.lanes
+
+-- the frames of a tick
+pub made_frames : (version : ℕ) (song : Module) (rate channels : ℕ) (state : Song) → IsValid song → rate ≤ 48000 → IsInRange channels state
+    → (tick_made version song rate state).place.frames ≤ 3750
+unfolding tick_made
+made_frames version song rate channels state valid slow p =
+    most_frames rate (rows_done version song (record state { control = placed song state.control })).control (rows_playing version song state valid p.control p.lanes) slow
+
 -- a tick of a valid song from a state in range leaves such a state, and has 1 to 3,750 frames
 pub tick_in_range : (version : ℕ) (song : Module) (rate channels : ℕ) (state : Song) → IsValid song → 8000 ≤ rate → rate ≤ 48000 → IsInRange channels state
     → IsTicked channels (seq_tick version song rate state)

@@ -1,4 +1,4 @@
-use Rattle.std.proofs.Common.{◌≡◌, ℕ, ◌<◌, ◌≤◌, ◌+◌, ◌++◌, None, List, length, get_or, set, map, take, drop, ap, subst, sym, ◌∙◌, arith}
+use Rattle.std.proofs.Common.{◌≡◌, ℕ, ◌<◌, ◌≤◌, ◌+◌, ◌++◌, None, List, length, get_or, set, map, take, drop, ap, subst, refl, sym, ◌∙◌, arith}
 use Rattle.std.proofs.lemmas.List.{length-map, length-set, drop_all, take_all, append-nil, get_or_default}
 use Rattle.std.proofs.lemmas.List.Edits.{map_over_more}
 use Rattle.ft_types.specs.Views.{Shown}
@@ -38,8 +38,9 @@ loop-c-preserved c =
     let lane = lane_of i now (get_or c.loop-c.channels i blank_channel) in
     record {
       song = ap (λ (s : Shown). s.song) c.settle_one.ensures.kept ∙ c.loop-c.invariant.song;
-      lanes = became_lane c.loop-c.channels now after i (moved c.args.frames lane) c.settle_one.new.channel (omega (arith, length-map c.loop-c.view.kept (owned_in c.loop-c.view.song.now))) c.settle_one.ensures
+      lanes = became_lane c.loop-c.channels now after i (moved c.args.frames lane) c.settle_one.new.channel (let wide = c.loop-c.invariant.wide in omega arith) c.settle_one.ensures
         ∙ map_over_more (moved c.args.frames) lanes (lanes_of c.loop-c.channels now.kept) i lane inside c.loop-c.invariant.lanes (sym (get_or-lanes_of c.loop-c.channels now.kept i blank_channel here) ∙ get_or_default (lanes_of c.loop-c.channels now.kept) i blank_lane lane (omega (arith, length-lanes_of c.loop-c.channels now.kept)));
+      wide = omega (arith, c.loop-c.invariant.wide, ap (λ (s : Shown). length s.kept) c.settle_one.ensures.kept, length-set now.kept i (moved c.args.frames lane).owned);
       many = length-set c.loop-c.channels i c.settle_one.new.channel ∙ many;
     }
 
@@ -52,3 +53,13 @@ returns-clause-lanes c =
     ∙ ap (λ (l : List Lane). map (moved c.args.frames) (take c.loop-c.c lanes) ++ l) (drop_all c.loop-c.c lanes end)
     ∙ append-nil (map (moved c.args.frames) (take c.loop-c.c lanes))
     ∙ ap (map (moved c.args.frames)) (take_all c.loop-c.c lanes end)
+
+pub loop-c-init : goal.loop-c-init
+loop-c-init c =
+    let first : Shown = shown_of c.args.view.now.song.now c.args.view.now.kept in
+    record {
+      song = refl;
+      lanes = refl;
+      wide = omega (arith, length-map c.args.view.now.kept (owned_in c.args.view.now.song.now));
+      many = refl;
+    }

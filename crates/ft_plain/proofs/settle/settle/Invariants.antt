@@ -10,5 +10,6 @@ invariant-loop-c l = record {
   lanes : lanes_of l.channels (shown_of l.view.song.now l.view.kept).kept
       ≡ map (moved l.frames) (take l.c (lanes_of l.fn.channels (shown_of l.fn.view.song.now l.fn.view.kept).kept))
       ++ drop l.c (lanes_of l.fn.channels (shown_of l.fn.view.song.now l.fn.view.kept).kept);
+  wide : length l.fn.channels ≤ length (shown_of l.view.song.now l.view.kept).kept;
   many : length l.channels ≡ length l.fn.channels;
 }
