@@ -12,6 +12,7 @@ mod part;
 mod pitch;
 mod place;
 mod plain;
+mod play;
 mod row;
 mod rows;
 mod seats;

@@ -8,6 +8,7 @@ use Rattle.std.proofs.Math.Nat.{div-lt_iff_lt-mul}
 use Rattle.ft_types.specs.declared.module.Module.{Module}
 use Rattle.ft_types.specs.Valid.{IsValid}
 use Rattle.ft_replay.specs.declared.state.Control.{Control}
+use Rattle.ft_replay.specs.declared.state.Place.{Place}
 use Rattle.ft_replay.specs.State.{Lane, Song, blank_lane, first_song, first_channel}
 use Rattle.ft_replay.specs.Pitch.{tick_frames, tick_room, carried}
 use Rattle.ft_replay.specs.Range.{IsChannelInRange, IsLaneInRange, IsControlInRange, IsPlaying, AreInRange, IsInRange}
@@ -187,3 +188,12 @@ first_in_range channels =
       many = length-replicate channels first;
       lanes = λ c lt. subst (IsLaneInRange c) (sym (get_or-replicate channels c first blank_lane (omega (arith, length-replicate channels first)))) (record { channel = first_channel_in_range c; stands = λ voice is. absurd cc });
     }
+
+-- the same of a state and a place that are the tick's
+pub made_lanes : (version : ℕ) (song : Module) (rate channels : ℕ) (state mid : Song) → IsValid song → 8000 ≤ rate → IsInRange channels state
+    → mid ≡ (tick_made version song rate state).state → AreInRange mid.lanes
+made_lanes version song rate channels state mid valid fast p e = subst (λ (s : Song). AreInRange s.lanes) (sym e) (made_in_range version song rate channels state valid fast p)
+
+pub made_few : (version : ℕ) (song : Module) (rate channels : ℕ) (state : Song) (place : Place) → IsValid song → rate ≤ 48000 → IsInRange channels state
+    → place ≡ (tick_made version song rate state).place → place.frames ≤ 3750
+made_few version song rate channels state place valid slow p e = subst (λ (x : Place). x.frames ≤ 3750) (sym e) (made_frames version song rate channels state valid slow p)
