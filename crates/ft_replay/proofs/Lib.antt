@@ -14,3 +14,4 @@ pub mod Making
 pub mod Sums
 pub mod Seats
 pub mod Sounds
+pub mod Parts
