@@ -13,6 +13,7 @@ mod pitch;
 mod place;
 mod plain;
 mod play;
+mod replayer;
 mod row;
 mod rows;
 mod seats;
@@ -22,3 +23,5 @@ mod tick;
 mod time;
 mod value;
 mod write;
+
+pub use replayer::Replayer;

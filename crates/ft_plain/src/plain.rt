@@ -1,10 +1,10 @@
 //! What a plain module shows while it plays.
 
-ghost use Rattle.std.specs.Prelude.{◌≡◌, ◌≤◌, ◌<◌, ◌≤ℤ◌, All, pos, negsuc, length, map, get_or, None, Some, false};
+ghost use Rattle.std.specs.Prelude.{◌≡◌, ◌≤◌, ◌<◌, ◌≤ℤ◌, All, pos, negsuc, length, map, get_or, None, Some, false, replicate};
 ghost use Rattle.std.specs.Option.{option_copied};
 ghost use Rattle.ft_types.specs.declared.voice.SampleHead.{SampleHead};
 ghost use Rattle.ft_types.specs.Valid.{IsValid};
-ghost use Rattle.ft_types.specs.Plain.{IsPlainInstrument};
+ghost use Rattle.ft_types.specs.Plain.{IsPlainInstrument, IsPlain};
 ghost use Rattle.ft_types.specs.Views.{cell_at, order_at, rows_at, begun, head_of_owned, keeping, instrument_at, number_in, sample_in};
 ghost use Rattle.ft_plain.specs.Shows.{owned_in, shown_of, frames_of};
 
@@ -74,6 +74,19 @@ fn sounding(song: &Module, part: Part) -> Option<SampleHead>
 }
 
 impl<'a> Plain<'a> {
+    /// A plain module before its first tick: nothing is kept.
+    pub fn new(song: &'a Module) -> Plain<'a>
+        requires valid { IsValid song.now }
+        requires plain { IsPlain song.now }
+        ensures song { result.song.now ≡ song.now }
+        ensures kept { result.kept ≡ replicate 32 None }
+    {
+        Plain {
+            song,
+            kept: [None; 32],
+        }
+    }
+
     /// The instrument of a number; they count from 1.
     pub fn instrument(&self, number: u8) -> Option<&Instrument>
         ensures { option_copied result ≡ instrument_at self.now.song.now number }

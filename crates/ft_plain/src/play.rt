@@ -63,6 +63,9 @@ pub fn tick_parts(
         ≡ (tick.seq_tick 0 view.old.song.now rate (stands.song_of control.old (stands.seated (take used channels.old) voices.old.items) (shown_of view.old.song.now view.old.kept))).sound }
     ensures rest { drop (2 * result.frames) out.new ≡ drop (2 * result.frames) out.old }
     ensures length { length out.new ≡ length out.old }
+    ensures range { IsInRange used (stands.song_of control.new (stands.seated (take used channels.new) voices.new.items) (shown_of view.new.song.now view.new.kept)) }
+    ensures some_frames { 1 ≤ result.frames }
+    ensures few_frames { result.frames ≤ 3750 }
     ensures seats { All (λ voice. voice.channel < used) voices.new.items }
 {
     let channels = &mut channels[..used as usize];
