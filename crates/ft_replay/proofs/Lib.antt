@@ -15,3 +15,4 @@ pub mod Sums
 pub mod Seats
 pub mod Sounds
 pub mod Parts
+pub mod Played
