@@ -4,3 +4,6 @@ pub mod Row
 pub mod Tick
 pub mod Sound
 pub mod Replay
+pub mod Range
+pub mod Stands
+pub mod Played

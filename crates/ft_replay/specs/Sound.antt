@@ -22,9 +22,13 @@ abbrev pub value_in : SampleHead → Option Owned → Option ℕ → ℤ
 value_in head owned None = pos 0
 value_in head owned (Some place) = loudness head.wide (frame_of owned place)
 
+-- how much of a step is made at a fraction of 2^32
+unfoldable pub part : ℤ → ℕ → ℤ
+part step fraction = floor_div (step *ℤ pos fraction) (2 ^ 32)
+
 -- on the straight line from one value to the next, at a fraction of 2^32
 unfoldable pub between : ℤ → ℤ → ℕ → ℤ
-between first second fraction = first +ℤ floor_div ((second -ℤ first) *ℤ pos fraction) (2 ^ 32)
+between first second fraction = first +ℤ part (second -ℤ first) fraction
 
 -- the value at a position, which has 32 bits of fraction
 unfoldable pub value_at : SampleHead → Option Owned → ℕ → ℤ

@@ -23,7 +23,7 @@ pub record Turn : Type 0 where
 abbrev pub no_memory : List ℕ
 no_memory = 0 ∷ 0 ∷ 0 ∷ 0 ∷ 0 ∷ 0 ∷ 0 ∷ 0 ∷ 0 ∷ 0 ∷ 0 ∷ 0 ∷ 0 ∷ 0 ∷ 0 ∷ []
 
--- a channel of zeros
+-- what is read past the channels: zeros, and no memory
 abbrev pub blank_channel : Channel
 blank_channel = record {
   cell = empty_cell;
@@ -52,7 +52,7 @@ blank_channel = record {
   tremor = 0;
   loop_row = 0;
   loop_count = 0;
-  memory = no_memory;
+  memory = [];
   voice = None;
   vib_off = pos 0;
   trem_off = pos 0;
@@ -68,7 +68,7 @@ blank_lane = record { channel = blank_channel; owned = None }
 
 -- panning is in the middle at first, and all else is 0
 abbrev pub first_channel : Channel
-first_channel = record blank_channel { pan = 128 }
+first_channel = record blank_channel { pan = 128; memory = no_memory }
 
 -- a tempo of 0 says that no tick was played; the global volume is full
 abbrev pub first_control : Control

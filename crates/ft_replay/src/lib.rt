@@ -4,6 +4,7 @@
 //! pitch, the rules of a row, the tick, its sound, and the replay of a whole song.
 #![tactic(auto)]
 
+mod first;
 mod state;
 
 pub use state::{Channel, Control, Place, SongState};

@@ -1,0 +1,4 @@
+pub mod Kept
+pub mod Narrow
+pub mod Mixes
+pub mod First
