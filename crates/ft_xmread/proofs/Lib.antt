@@ -1,7 +1,11 @@
 pub mod Lawful
+pub mod Loop
 pub mod Identified
 pub mod IdentifiedLaws
+pub mod Tests
 pub mod HeaderLaws
+pub mod CellLaws
+pub mod PatternLaws
 pub mod SongLaws
 pub mod WholeLaws
 pub mod Clauses

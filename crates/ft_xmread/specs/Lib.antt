@@ -1,5 +1,6 @@
 pub mod Reading
 pub mod Identification
 pub mod Header
+pub mod Pattern
 pub mod Whole
 pub mod Song

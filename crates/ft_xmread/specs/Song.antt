@@ -15,10 +15,9 @@ pub record IsFirstWrong (file : List ℕ) (at : ℕ) : Type 0 where
   pub wrong : IsFalse (stands file at)
   pub before : (k : ℕ) → k < at → IsTrue (stands file k)
 
--- no patterns and no instruments
-pub record IsBare (song : Module) : Type 0 where
-  pub patterns : song.patterns ≡ []
-  pub instruments : song.instruments ≡ []
+-- no instruments
+abbrev pub IsBare : Module → Type 0
+IsBare song = song.instruments ≡ []
 
 -- these are the canonical bytes of a valid and plain module
 pub record IsSongOf (file : List ℕ) (song : Module) : Type 0 where

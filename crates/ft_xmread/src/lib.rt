@@ -5,9 +5,11 @@
 //! fields, and the place of each fault.
 #![tactic(auto)]
 
+mod cell;
 mod fault;
 mod header;
 mod identification;
+mod pattern;
 mod reader;
 mod reading;
 
