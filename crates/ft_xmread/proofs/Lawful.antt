@@ -225,6 +225,17 @@ seen_law view back one t F u G law is_seen is_view = record {
   takes = λ p y bytes e. seen_takes view one t F u G law is_seen p y bytes e;
 }
 
+-- each value that fits is the view of one that fits
+abbrev pub IsImage : {A B : Type 0} → (A → B) → (A → Type 0) → (B → Type 0) → Type 0
+IsImage {A = A} {B = B} view F G = (y : B) → G y → (x : A) × F x × (view x ≡ y)
+
+pub image_law : {A B : Type 0} (view : A → B) (one : Reading A) (t : A → List ℕ) (F : A → Type 0) (u : B → List ℕ) (G : B → Type 0)
+    → Lawful one t F → IsSeen view t F u G → IsImage view F G → Lawful (seen view one) u G
+image_law view one t F u G law is_seen is_image = record {
+  again = λ at y rest fits. let v = is_image y fits in seen_again view one t F law at v.0 y (u y) rest v.1 v.2 ((is_seen v.0 v.1).1 ∙ ap u v.2);
+  takes = λ p y bytes e. seen_takes view one t F u G law is_seen p y bytes e;
+}
+
 -- ---- more forms
 
 -- two parts of which neither depends on the other

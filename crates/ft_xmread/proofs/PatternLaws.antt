@@ -1,22 +1,21 @@
 -- The two laws of a pattern.
-use Rattle.std.proofs.Common.{◌≡◌, ℕ, zero, suc, ◌+◌, ◌-◌, ◌*◌, ◌^◌, ◌<◌, ◌≤◌, Bool, true, false, not, cond, List, [], ◌∷◌, ◌++◌, length, replicate, All, refl, sym, ap, subst, ◌∙◌, arith, append_assoc, inl, inr}
-use Rattle.std.specs.Prelude.{nat_lt, nat_le, nat_eq, ◌&&◌, ◌||◌, ◌==◌, Ok, filter}
+use Rattle.std.proofs.Common.{◌≡◌, ℕ, zero, suc, ◌+◌, ◌-◌, ◌*◌, ◌<◌, ◌≤◌, Bool, true, false, not, cond, List, [], ◌∷◌, ◌++◌, length, replicate, All, refl, sym, ap, subst, ◌∙◌, arith, append_assoc, inl}
+use Rattle.std.specs.Prelude.{nat_lt, nat_le, nat_eq, ◌||◌, ◌==◌, Ok, filter}
 use Rattle.std.specs.List.{list_all, concat, flat_map}
 use Rattle.std.proofs.lemmas.List.{append-nil, length-append, length-replicate}
-use Rattle.std.proofs.lemmas.List.Elements.{All-head, All-tail, All-nil, All-cons, All-replicate}
+use Rattle.std.proofs.lemmas.List.Elements.{All-replicate}
 use Rattle.std.proofs.Math.Nat.{mul-le-mul_left}
 use Rattle.std.proofs.lemmas.Bool.Decides.{nat_tests}
-use Rattle.byteorder.specs.Endian.{little_bytes}
 use Rattle.ft_types.specs.declared.pattern.Cell.{Cell}
 use Rattle.ft_types.specs.declared.pattern.Pattern.{Pattern}
-use Rattle.ft_types.specs.Valid.{IsValidCell, IsValidPattern}
-use Rattle.ft_types.specs.Plain.{IsPlainCell, IsPlainPattern}
+use Rattle.ft_types.specs.Valid.{IsValidPattern}
+use Rattle.ft_types.specs.Plain.{IsPlainPattern}
 use Rattle.ft_format.specs.Canon.{byte, u16, u32, bytes_of_cell, mask_of, is_set, is_empty_cell, cell_bytes, pattern_data, pattern_bytes}
 use Rattle.ft_xmread.specs.declared.fault.XmFault.TheVariants.{Count, Packing, NotYet}
 use Rattle.ft_xmread.specs.declared.pattern.PatternHead.{PatternHead}
-use Rattle.ft_xmread.specs.Reading.{Place, Reading, field_at, number_at, both, checked, seen, times, within}
+use Rattle.ft_xmread.specs.Reading.{Place, Reading, field_at, number_at, both, times, within}
 use Rattle.ft_xmread.specs.Pattern.{cell_at, pattern_head_at, empty_cell, cells_at, is_written_pattern, raw_pattern_at, pattern_at}
-use Rattle.ft_xmread.proofs.Tests.{is_so, not_so, and_split, and_both, eq_is, is_eq, le_is, is_le, not_lt, fits_limit, or_right}
+use Rattle.ft_xmread.proofs.Tests.{is_so, not_so, and_split, and_both, eq_is, le_is, is_le, not_lt, fits_limit, or_right}
 use Rattle.ft_xmread.proofs.Lawful.{IsBytes, Lawful, Takes, IsField, IsNumber, IsCount, Passes, AllFit, FitsWithin, field_law, byte_law, u16_law, u32_law, count_law, both_law, pair_law, within_law, times_law, checked_law, seen_law, ok_is, no_text}
 use Rattle.ft_xmread.proofs.CellLaws.{IsCell, cell_law}
 

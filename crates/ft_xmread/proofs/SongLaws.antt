@@ -1,61 +1,40 @@
 -- The two laws of what stands behind the identification.
-use Rattle.std.proofs.Common.{◌≡◌, ℕ, zero, suc, ◌+◌, ◌-◌, ◌*◌, ◌^◌, ◌<◌, ◌≤◌, Bool, true, false, not, cond, List, [], ◌∷◌, ◌++◌, length, take, drop, All, replicate, Result, Ok, Err, refl, sym, ap, subst, ◌∙◌, arith, append_assoc, inl, inr}
-use Rattle.std.specs.Prelude.{nat_lt, nat_le, nat_eq, ◌&&◌, ◌||◌, ◌==◌, get_or, if◌then◌else◌}
-use Rattle.std.specs.List.{list_all, flat_map}
-use Rattle.std.proofs.lemmas.Bool.{cases_lt}
+use Rattle.std.proofs.Common.{◌≡◌, ℕ, ◌+◌, ◌-◌, ◌<◌, ◌≤◌, Bool, true, false, not, List, ◌++◌, length, take, drop, All, replicate, refl, sym, ap, ◌∙◌, arith}
+use Rattle.std.specs.Prelude.{nat_lt, ◌&&◌, ◌||◌, ◌==◌}
+use Rattle.std.specs.List.{flat_map}
 use Rattle.std.proofs.lemmas.Bool.Decides.{nat_tests}
-use Rattle.std.proofs.lemmas.List.{get_or_past, append-nil, take-append-drop, length-take, length-drop, length-append, length-replicate}
-use Rattle.std.proofs.lemmas.List.Elements.{All-from_get_or, All-nil, All-append, All-replicate}
+use Rattle.std.proofs.lemmas.List.{take-append-drop, length-take, length-drop, length-append, length-replicate}
+use Rattle.std.proofs.lemmas.List.Elements.{All-from_get_or, All-append, All-replicate}
 use Rattle.std.proofs.Math.Seq.{drop-append_seam, take-append_seam}
 use Rattle.ft_types.specs.declared.module.Module.{Module}
 use Rattle.ft_types.specs.declared.pattern.Pattern.{Pattern}
 use Rattle.ft_types.specs.declared.instrument.Instrument.{Instrument}
-use Rattle.ft_types.specs.Valid.{IsBytes as AreBytes, IsValid}
+use Rattle.ft_types.specs.Valid.{IsValid}
 use Rattle.ft_types.specs.Plain.{IsPlain}
-use Rattle.ft_format.specs.Canon.{order_table, flags_of, pattern_bytes, instrument_bytes}
-use Rattle.ft_xmread.specs.declared.fault.XmFault.{XmFault}
-use Rattle.ft_xmread.specs.declared.fault.XmFault.TheVariants as faults
-use Rattle.ft_xmread.specs.Song.{IsBare}
-use Rattle.ft_xmread.specs.Reading.{Place, Reading, both, checked, times}
+use Rattle.ft_format.specs.Canon.{order_table, pattern_bytes, instrument_bytes}
+use Rattle.ft_xmread.specs.Reading.{not_yet_at, both, checked, times}
 use Rattle.ft_xmread.specs.Pattern.{pattern_at}
 use Rattle.ft_xmread.specs.Header.{RawHeader, header_at, header_text, has_fixed_fields, has_valid_numbers, has_padding, is_written, song_of, header_of}
-use Rattle.ft_xmread.specs.Whole.{not_yet_at, no_instruments_at, parts_at, song_at}
+use Rattle.ft_xmread.specs.Whole.{parts_at, song_at}
+use Rattle.ft_xmread.specs.Instrument.{instrument_at}
+use Rattle.ft_xmread.proofs.InstrumentLaws.{IsInstrument, instrument_law}
 use Rattle.ft_xmread.proofs.Tests.{is_so, not_so, and_split, and_both, eq_is, is_eq, lt_is, is_lt, not_lt, le_is, is_le, fits_limit, zeros, zeros_pass}
-use Rattle.ft_xmread.proofs.Lawful.{IsBytes, IsBytes-take, IsField, Lawful, Takes, Passes, AllFit, no_text, ok_is, both_law, pair_law, times_law, checked_law, seen_law}
+use Rattle.ft_xmread.proofs.Lawful.{IsBytes, IsBytes-take, Lawful, Passes, AllFit, both_law, pair_law, times_law, checked_law, seen_law}
+use Rattle.ft_xmread.proofs.Bytes.{are_bytes, bytes_of, field_of}
 use Rattle.ft_xmread.proofs.HeaderLaws.{HeaderFits, header_law}
 use Rattle.ft_xmread.proofs.PatternLaws.{IsPatternOf, pattern_law}
 
--- ---- the instruments, of which none is read so far
+abbrev InstrumentsFit : ℕ → List Instrument → Type 0
+InstrumentsFit count instruments = AllFit count IsInstrument instruments
 
-abbrev pub InstrumentsFit : ℕ → List Instrument → Type 0
-InstrumentsFit count instruments = (length instruments ≡ count) × (instruments ≡ [])
-
-abbrev none_if : Bool → Reading (List Instrument)
-none_if none p = cond none (Ok ([], p)) (Err faults.NotYet)
-
-none_again : (at : ℕ) (instruments : List Instrument) (rest : List ℕ) → instruments ≡ []
-    → none_if true (record { at = at; left = flat_map instrument_bytes instruments ++ rest }) ≡ Ok (instruments, record { at = at + length (flat_map instrument_bytes instruments); left = rest })
-none_again at instruments rest e = rw (e, no_text at) refl
-
-none_takes : (none : Bool) (count : ℕ) (p : Place) (x : List Instrument × Place) → nat_eq count 0 ≡ none → IsBytes p.left → none_if none p ≡ Ok x → Takes (flat_map instrument_bytes) (InstrumentsFit count) p x
-none_takes true count p x c bytes e =
-    let made : List Instrument × Place = ([], p) in
-    subst (λ (y : List Instrument × Place). Takes (flat_map instrument_bytes) (InstrumentsFit count) p y) (ok_is made x e)
-    (record { fits = (sym (eq_is count 0 c), refl); parts = refl; bytes = bytes })
-none_takes false count p x c bytes e = absurd cc
-
-instruments_law : (count : ℕ) → Lawful (no_instruments_at count) (flat_map instrument_bytes) (InstrumentsFit count)
-instruments_law count = record {
-  again = λ at x rest fits. rw (is_eq count 0 (sym fits.0 ∙ ap length fits.1)) (none_again at x rest fits.1);
-  takes = λ p x bytes e. none_takes (nat_eq count 0) count p x refl bytes e;
-}
+instruments_law : (count : ℕ) → Lawful (times (λ k. instrument_at (k + 1)) 0 count) (flat_map instrument_bytes) (InstrumentsFit count)
+instruments_law count = times_law (λ k. instrument_at (k + 1)) instrument_bytes IsInstrument (λ k. instrument_law (k + 1)) 0 count
 
 -- ---- what is read is a song
 
-pub record IsBareSong (song : Module) : Type 0 where
+pub record IsSong (song : Module) : Type 0 where
   pub valid : IsValid song
   pub plain : IsPlain song
-  pub bare : IsBare song
 
 pub record Facts (raw : RawHeader) : Type 0 where
   pub table : length raw.orders ≡ 256
@@ -90,9 +69,6 @@ facts raw e =
       low_bpm = le_is raw.settings.bpm 255 m.1;
       padding = zeros (drop raw.sizes.length raw.orders) b.1;
     }
-
-pub are_bytes : (n : ℕ) (l : List ℕ) → IsField n l → AreBytes n l
-are_bytes n l f = record { len = f.0; each = All-from_get_or (λ byte. byte < 256) l 0 (λ i lt. f.1 i) }
 
 table_of : (raw : RawHeader) → Facts raw → raw.sizes.length ≤ 256 → raw.orders ≡ order_table (take raw.sizes.length raw.orders)
 table_of raw f le =
@@ -135,18 +111,12 @@ valid_of raw patterns instruments fits f ps is =
       low_bpm = f.low_bpm;
       few_patterns = omega (arith, ps.count, fits_limit 256 raw.settings.patterns fits.1.1.0.0.1);
       patterns = λ k d lt. (ps.each k d lt).valid;
-      few_instruments = rw is.1 (omega arith);
-      instruments = rw is.1 (All-nil _);
+      few_instruments = omega (arith, is.count, fits_limit 128 raw.settings.instruments fits.1.1.0.1.0.1);
+      instruments = λ k d lt. (is.each k d lt).valid;
     }
 
 table_length : (orders : List ℕ) → length orders ≤ 256 → length (order_table orders) ≡ 256
 table_length orders le = omega (arith, length-append orders (replicate (256 - length orders) 0), length-replicate {A = ℕ} (256 - length orders) 0)
-
-bytes_of : (l : List ℕ) → All (λ byte. byte < 256) l → IsBytes l
-bytes_of l h i = elim (cases_lt i (length l)) [
-  | inl lt ↦ h i 0 lt
-  | inr le ↦ rw (get_or_past l i 0 le) (omega arith)
-]
 
 table_bytes : (orders : List ℕ) → All (λ order. order < 256) orders → IsBytes (order_table orders)
 table_bytes orders h = bytes_of (order_table orders) (All-append (λ byte. byte < 256) orders (replicate (256 - length orders) 0) h (All-replicate (λ byte. byte < 256) (256 - length orders) 0 (omega arith)))
@@ -184,7 +154,7 @@ song_text song = parts_text (parts_of song)
 
 parts_law : Lawful parts_at parts_text PartsFit
 parts_law = both_law (checked unwritten not_yet_at header_at)
-    (λ raw. both (times (pattern_at raw.sizes.channels) 0 raw.settings.patterns) (λ _. no_instruments_at raw.settings.instruments))
+    (λ raw. both (times (pattern_at raw.sizes.channels) 0 raw.settings.patterns) (λ _. times (λ k. instrument_at (k + 1)) 0 raw.settings.instruments))
     header_text (λ _ x. flat_map pattern_bytes x.0 ++ flat_map instrument_bytes x.1)
     (Passes HeaderFits unwritten) (λ raw x. AllFit raw.settings.patterns (IsPatternOf raw.sizes.channels) x.0 × InstrumentsFit raw.settings.instruments x.1)
     (checked_law unwritten not_yet_at header_at header_text HeaderFits header_law)
@@ -193,23 +163,19 @@ parts_law = both_law (checked unwritten not_yet_at header_at)
     (times_law (pattern_at raw.sizes.channels) pattern_bytes (IsPatternOf raw.sizes.channels) (λ number. pattern_law raw.sizes.channels number channels.0 channels.1) 0 raw.settings.patterns)
     (instruments_law raw.settings.instruments))
 
-is_seen : (x : Parts) → PartsFit x → IsBareSong (song_from x) × (parts_text x ≡ song_text (song_from x))
+is_seen : (x : Parts) → PartsFit x → IsSong (song_from x) × (parts_text x ≡ song_text (song_from x))
 is_seen x fits =
     let f = facts x.0 (is_so (is_written x.0) fits.0.1) in (
       record {
         valid = valid_of x.0 x.1.0 x.1.1 fits.0.0 f fits.1.0 fits.1.1;
-        plain = record { linear = refl; patterns = λ k d lt. (fits.1.0.each k d lt).plain; instruments = rw fits.1.1.1 (All-nil _) };
-        bare = fits.1.1.1;
+        plain = record { linear = refl; patterns = λ k d lt. (fits.1.0.each k d lt).plain; instruments = λ k d lt. (fits.1.1.each k d lt).plain };
       },
-      ap (λ (l : List ℕ). l ++ (flat_map pattern_bytes x.1.0 ++ flat_map instrument_bytes x.1.1)) (text_of x.0 x.1.0 x.1.1 fits.0.0 f fits.1.0.count fits.1.1.0),
+      ap (λ (l : List ℕ). l ++ (flat_map pattern_bytes x.1.0 ++ flat_map instrument_bytes x.1.1)) (text_of x.0 x.1.0 x.1.1 fits.0.0 f fits.1.0.count fits.1.1.count),
     )
 
 -- ---- a song is read
 
-field_of : (n : ℕ) (l : List ℕ) → AreBytes n l → IsField n l
-field_of n l b = (b.len, bytes_of l b.each)
-
-fits_of : (song : Module) → IsBareSong song → HeaderFits (header_of song)
+fits_of : (song : Module) → IsSong song → HeaderFits (header_of song)
 fits_of song s =
     let v = s.valid in
     let table : length (order_table song.orders) ≡ 256 = table_length song.orders v.few_orders in (
@@ -223,7 +189,7 @@ fits_of song s =
       ),
     )
 
-written_of : (song : Module) → IsBareSong song → is_written (header_of song) ≡ true
+written_of : (song : Module) → IsSong song → is_written (header_of song) ≡ true
 unfolding has_fixed_fields has_valid_numbers has_padding
 written_of song s =
     let v = s.valid in
@@ -240,21 +206,21 @@ pub same_song : (raw : RawHeader) (patterns : List Pattern) (instruments : List 
 same_song raw patterns instruments song name tracker restart channels linear tempo bpm orders all_patterns all_instruments =
     rw (name, tracker, restart, channels, linear, tempo, bpm, orders, all_patterns, all_instruments) refl
 
-song_again : (song : Module) → IsBareSong song → song_from (parts_of song) ≡ song
+song_again : (song : Module) → IsSong song → song_from (parts_of song) ≡ song
 song_again song s = same_song (header_of song) song.patterns song.instruments song refl refl refl refl (sym s.plain.linear) refl refl (take-append_seam song.orders (replicate (256 - length song.orders) 0)) refl refl
 
-parts_fit : (song : Module) → IsBareSong song → PartsFit (parts_of song)
+parts_fit : (song : Module) → IsSong song → PartsFit (parts_of song)
 parts_fit song s = (
   (fits_of song s, not_so (is_written (header_of song)) (written_of song s)),
   (
     record { count = refl; each = λ k d lt. record { valid = s.valid.patterns k d lt; plain = s.plain.patterns k d lt } },
-    (refl, s.bare),
+    record { count = refl; each = λ k d lt. record { valid = s.valid.instruments k d lt; plain = s.plain.instruments k d lt } },
   ),
 )
 
-is_view : (song : Module) → IsBareSong song → PartsFit (parts_of song) × (song_from (parts_of song) ≡ song) × (parts_text (parts_of song) ≡ song_text song)
+is_view : (song : Module) → IsSong song → PartsFit (parts_of song) × (song_from (parts_of song) ≡ song) × (parts_text (parts_of song) ≡ song_text song)
 is_view song s = (parts_fit song s, song_again song s, refl)
 
-pub song_law : Lawful song_at song_text IsBareSong
+pub song_law : Lawful song_at song_text IsSong
 unfolding song_at
-song_law = seen_law song_from parts_of parts_at parts_text PartsFit song_text IsBareSong parts_law is_seen is_view
+song_law = seen_law song_from parts_of parts_at parts_text PartsFit song_text IsSong parts_law is_seen is_view

@@ -12,6 +12,7 @@ ghost use Rattle.ft_xmread.specs.Song.{IsSongOf, IsFirstWrong, HasFault, IsFault
 use crate::fault::XmFault;
 use crate::header::{Header, read_header};
 use crate::identification::read_identification;
+use crate::instrument::read_instruments;
 use crate::pattern::read_patterns;
 use crate::reader::Reader;
 use ft_types::{Instrument, Instruments, Module, Orders, Pattern, Patterns};
@@ -58,10 +59,8 @@ fn read_song(alloc: Global, reader: &mut Reader) -> Result<Module, XmFault>
         header.sizes.channels,
         header.settings.patterns,
     )?;
-    if header.settings.instruments != 0 {
-        return Err(XmFault::NotYet);
-    }
-    song_from(alloc, &header, patterns, Vec::new(alloc))
+    let instruments = read_instruments(alloc, reader, header.settings.instruments)?;
+    song_from(alloc, &header, patterns, instruments)
 }
 
 /// This fault as it is told so far: what the rest of the grammar will name is `NotYet`.
