@@ -7,10 +7,14 @@ use Rattle.std.proofs.lemmas.Nat.{le_bytes_2, le_bytes_4}
 use Rattle.std.proofs.Math.Seq.{take-append_seam, drop-append_seam}
 use Rattle.byteorder.specs.Endian.{little_number, little_bytes}
 use Rattle.byteorder.specs.Numbers.{little_number-reads_back, length-bytes_low_first, little_from-lt}
+use Rattle.std.specs.List.{flat_map}
+use Rattle.std.proofs.Common.{All, zero, suc}
+use Rattle.std.proofs.lemmas.List.Elements.{All-head, All-tail, All-nil, All-cons}
+use Rattle.ft_format.specs.Canon.{byte}
 use Rattle.ft_xmread.specs.declared.fault.XmFault.{XmFault}
 use Rattle.ft_xmread.specs.declared.fault.XmFault.TheVariants.{Count}
 use Rattle.std.specs.Prelude.{nat_lt}
-use Rattle.ft_xmread.specs.Reading.{Place, Reading, ◌>>=◌, field_at, number_at, both, checked, seen, count_at}
+use Rattle.ft_xmread.specs.Reading.{Place, Reading, ◌>>=◌, field_at, number_at, both, checked, seen, count_at, byte_if, piece_at, within, times}
 
 abbrev pub IsBytes : List ℕ → Type 0
 IsBytes bytes = (i : ℕ) → get_or bytes i 0 < 256
@@ -221,6 +225,17 @@ seen_law view back one t F u G law is_seen is_view = record {
   takes = λ p y bytes e. seen_takes view one t F u G law is_seen p y bytes e;
 }
 
+-- each value that fits is the view of one that fits
+abbrev pub IsImage : {A B : Type 0} → (A → B) → (A → Type 0) → (B → Type 0) → Type 0
+IsImage {A = A} {B = B} view F G = (y : B) → G y → (x : A) × F x × (view x ≡ y)
+
+pub image_law : {A B : Type 0} (view : A → B) (one : Reading A) (t : A → List ℕ) (F : A → Type 0) (u : B → List ℕ) (G : B → Type 0)
+    → Lawful one t F → IsSeen view t F u G → IsImage view F G → Lawful (seen view one) u G
+image_law view one t F u G law is_seen is_image = record {
+  again = λ at y rest fits. let v = is_image y fits in seen_again view one t F law at v.0 y (u y) rest v.1 v.2 ((is_seen v.0 v.1).1 ∙ ap u v.2);
+  takes = λ p y bytes e. seen_takes view one t F u G law is_seen p y bytes e;
+}
+
 -- ---- more forms
 
 -- two parts of which neither depends on the other
@@ -244,9 +259,130 @@ u16_law = number_law 2 back_2
 pub u32_law : Lawful (number_at 4) (little_bytes 4) (IsNumber 4)
 u32_law = number_law 4 back_4
 
+-- the same values with another text
+pub text_law : {A : Type 0} (one : Reading A) (t u : A → List ℕ) (F : A → Type 0) → Lawful one t F → ((x : A) → F x → t x ≡ u x) → Lawful one u F
+text_law {A = A} one t u F law same = record {
+  again = λ at x rest fits. subst (λ (text : List ℕ). one (record { at = at; left = text ++ rest }) ≡ Ok (x, record { at = at + length text; left = rest })) (same x fits) (law.again at x rest fits);
+  takes = λ p x bytes e.
+      let t = law.takes p x bytes e in
+      record { fits = t.fits; parts = t.parts ∙ ap (λ (l : List ℕ). l ++ x.1.left) (same x.0 t.fits); bytes = t.bytes };
+}
+
+one_byte : (x : ℕ) → IsNumber 1 x → little_bytes 1 x ≡ byte x
+one_byte x fits = ap (λ (b : ℕ). b ∷ []) (omega (arith, fits))
+
+pub byte_law : Lawful (number_at 1) byte (IsNumber 1)
+byte_law = text_law (number_at 1) (little_bytes 1) byte (IsNumber 1) u8_law one_byte
+
 -- a number of two bytes up to a limit
 abbrev pub IsCount : ℕ → ℕ → Type 0
 IsCount most = Passes (IsNumber 2) (nat_lt most)
 
 pub count_law : (most : ℕ) → Lawful (count_at most) (little_bytes 2) (IsCount most)
 count_law most = checked_law (nat_lt most) Count (number_at 2) (little_bytes 2) (IsNumber 2) u16_law
+
+-- ---- a byte that may be left out
+
+abbrev pub byte_if_text : Bool → ℕ → List ℕ
+byte_if_text true x = byte x
+byte_if_text false x = []
+
+abbrev pub IsByteIf : Bool → ℕ → Type 0
+IsByteIf true x = IsNumber 1 x
+IsByteIf false x = x ≡ 0
+
+none_takes : (p : Place) (x : ℕ × Place) → IsBytes p.left → byte_if false p ≡ Ok x → Takes (byte_if_text false) (IsByteIf false) p x
+none_takes p x bytes e =
+    let made : ℕ × Place = (0, p) in
+    subst (λ (y : ℕ × Place). Takes (byte_if_text false) (IsByteIf false) p y) (ok_is made x e)
+    (record { fits = refl; parts = refl; bytes = bytes })
+
+pub no_text : (at : ℕ) → at + length {A = ℕ} [] ≡ at
+no_text at = omega arith
+
+pub byte_if_law : (b : Bool) → Lawful (byte_if b) (byte_if_text b) (IsByteIf b)
+byte_if_law true = record { again = λ at x rest fits. byte_law.again at x rest fits; takes = λ p x bytes e. let t = byte_law.takes p x bytes e in record { fits = t.fits; parts = t.parts; bytes = t.bytes } }
+byte_if_law false = record {
+  again = λ at x rest fits. rw (fits, no_text at) refl;
+  takes = λ p x bytes e. none_takes p x bytes e;
+}
+
+-- ---- a part of a piece
+
+abbrev pub within_text : {A : Type 0} → (A → List ℕ) → A × List ℕ → List ℕ
+within_text t x = t x.0 ++ x.1
+
+pub record FitsWithin {A : Type 0} (n : ℕ) (t : A → List ℕ) (F : A → Type 0) (x : A × List ℕ) : Type 0 where
+  pub fits : F x.0
+  pub whole : length (t x.0 ++ x.1) ≡ n
+  pub bytes : IsBytes x.1
+
+within_takes : {A : Type 0} (n : ℕ) (one : Reading A) (t : A → List ℕ) (F : A → Type 0) → Lawful one t F
+    → (p : Place) (x : (A × List ℕ) × Place) → IsBytes p.left → within n one p ≡ Ok x → Takes (within_text t) (FitsWithin n t F) p x
+unfolding piece_at
+within_takes {A = A} n one t F law p x bytes e =
+    let g = bind_ok (piece_at n p) _ x e in
+    let f = bind_ok (field_at n p) _ g.0 g.1 in
+    let s = (field_law n).takes p f.0 bytes f.1 in
+    let inner : Place = record { at = p.at; left = f.0.0 } in
+    let piece : Place × Place = (inner, f.0.1) in
+    let same = ok_is piece g.0 f.2 in
+    let a = bind_ok (one inner) _ x (subst (λ (y : Place × Place). (one y.0 >>= λ z. Ok ((z.0, z.1.left), y.1)) ≡ Ok x) (sym same) g.2) in
+    let r = law.takes inner a.0 s.fits.1 a.1 in
+    let made : (A × List ℕ) × Place = ((a.0.0, a.0.1.left), f.0.1) in
+    subst (λ (y : (A × List ℕ) × Place). Takes (within_text t) (FitsWithin n t F) p y) (ok_is made x a.2)
+    (record {
+      fits = record { fits = r.fits; whole = sym (ap length r.parts) ∙ s.fits.0; bytes = r.bytes };
+      parts = s.parts ∙ ap (λ (l : List ℕ). l ++ f.0.1.left) r.parts;
+      bytes = s.bytes;
+    })
+
+pub within_law : {A : Type 0} (n : ℕ) (one : Reading A) (t : A → List ℕ) (F : A → Type 0) → Lawful one t F → Lawful (within n one) (within_text t) (FitsWithin n t F)
+unfolding piece_at
+within_law n one t F law = record {
+  again = λ at x rest fits. rw (field_again at (t x.0 ++ x.1) rest n fits.whole, law.again at x.0 x.1 fits.fits) refl;
+  takes = λ p x bytes e. within_takes n one t F law p x bytes e;
+}
+
+-- ---- a part many times
+
+pub record AllFit {A : Type 0} (n : ℕ) (F : A → Type 0) (xs : List A) : Type 0 where
+  pub count : length xs ≡ n
+  pub each : All F xs
+
+times_again : {A : Type 0} (one : ℕ → Reading A) (t : A → List ℕ) (F : A → Type 0) → ((k : ℕ) → Lawful (one k) t F)
+    → (first at : ℕ) (xs : List A) (rest : List ℕ) → All F xs
+    → times one first (length xs) (record { at = at; left = flat_map t xs ++ rest }) ≡ Ok (xs, record { at = at + length (flat_map t xs); left = rest })
+unfolding times
+times_again one t F law first at [] rest all = rw (no_text at) refl
+times_again one t F law first at (x ∷ xs) rest all =
+    let n : at + length (t x ++ flat_map t xs) ≡ at + length (t x) + length (flat_map t xs) = omega (arith, length-append (t x) (flat_map t xs)) in
+    ap (λ (left : List ℕ). times one first (suc (length xs)) (record { at = at; left = left })) (append_assoc (t x) (flat_map t xs) rest)
+    ∙ rw ((law first).again at x (flat_map t xs ++ rest) (All-head F x xs all), times_again one t F law (suc first) (at + length (t x)) xs rest (All-tail F x xs all), n) refl
+
+times_takes : {A : Type 0} (one : ℕ → Reading A) (t : A → List ℕ) (F : A → Type 0) → ((k : ℕ) → Lawful (one k) t F)
+    → (first n : ℕ) (p : Place) (x : List A × Place) → IsBytes p.left → times one first n p ≡ Ok x → Takes (flat_map t) (AllFit n F) p x
+unfolding times
+times_takes {A = A} one t F law first zero p x bytes e =
+    let made : List A × Place = ([], p) in
+    subst (λ (y : List A × Place). Takes (flat_map t) (AllFit 0 F) p y) (ok_is made x e)
+    (record { fits = record { count = refl; each = All-nil F }; parts = refl; bytes = bytes })
+times_takes {A = A} one t F law first (suc n) p x bytes e =
+    let a = bind_ok (one first p) _ x e in
+    let s = (law first).takes p a.0 bytes a.1 in
+    let b = bind_ok (times one (suc first) n a.0.1) _ x a.2 in
+    let r = times_takes one t F law (suc first) n a.0.1 b.0 s.bytes b.1 in
+    let made : List A × Place = (a.0.0 ∷ b.0.0, b.0.1) in
+    subst (λ (y : List A × Place). Takes (flat_map t) (AllFit (suc n) F) p y) (ok_is made x b.2)
+    (record {
+      fits = record { count = ap suc r.fits.count; each = All-cons F a.0.0 b.0.0 s.fits r.fits.each };
+      parts = s.parts ∙ ap (λ (l : List ℕ). t a.0.0 ++ l) r.parts ∙ sym (append_assoc (t a.0.0) (flat_map t b.0.0) b.0.1.left);
+      bytes = r.bytes;
+    })
+
+pub times_law : {A : Type 0} (one : ℕ → Reading A) (t : A → List ℕ) (F : A → Type 0) → ((k : ℕ) → Lawful (one k) t F)
+    → (first n : ℕ) → Lawful (times one first n) (flat_map t) (AllFit n F)
+times_law {A = A} one t F law first n = record {
+  again = λ at xs rest fits. subst (λ (k : ℕ). times one first k (record { at = at; left = flat_map t xs ++ rest }) ≡ Ok (xs, record { at = at + length (flat_map t xs); left = rest })) fits.count (times_again one t F law first at xs rest fits.each);
+  takes = λ p x bytes e. times_takes one t F law first n p x bytes e;
+}

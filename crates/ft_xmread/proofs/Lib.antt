@@ -1,7 +1,17 @@
 pub mod Lawful
+pub mod Loop
 pub mod Identified
 pub mod IdentifiedLaws
+pub mod Tests
+pub mod Frames
 pub mod HeaderLaws
+pub mod CellLaws
+pub mod PatternLaws
+pub mod Bytes
+pub mod FrameLaws
+pub mod SampleLaws
+pub mod ExtraLaws
+pub mod InstrumentLaws
 pub mod SongLaws
 pub mod WholeLaws
 pub mod Clauses

@@ -1,82 +1,40 @@
 -- The two laws of what stands behind the identification.
-use Rattle.std.proofs.Common.{◌≡◌, ℕ, zero, suc, ◌-◌, ◌<◌, ◌≤◌, Bool, true, false, not, List, [], ◌∷◌, ◌++◌, length, take, drop, All, replicate, refl, sym, ap, ◌∙◌, arith}
-use Rattle.std.specs.Prelude.{nat_lt, nat_le, nat_eq, ◌&&◌, ◌||◌, ◌==◌}
-use Rattle.std.specs.List.{list_all}
-use Rattle.std.proofs.lemmas.Bool.{cases_lt}
-use Rattle.std.proofs.Common.{inl, inr}
+use Rattle.std.proofs.Common.{◌≡◌, ℕ, ◌+◌, ◌-◌, ◌<◌, ◌≤◌, Bool, true, false, not, List, ◌++◌, length, take, drop, All, replicate, refl, sym, ap, ◌∙◌, arith}
+use Rattle.std.specs.Prelude.{nat_lt, ◌&&◌, ◌||◌, ◌==◌}
+use Rattle.std.specs.List.{flat_map}
 use Rattle.std.proofs.lemmas.Bool.Decides.{nat_tests}
-use Rattle.std.proofs.lemmas.List.{get_or_past, take-append-drop, length-take, length-drop, length-append, length-replicate}
-use Rattle.std.proofs.lemmas.List.Elements.{All-from_get_or, All-nil, All-append, All-replicate}
+use Rattle.std.proofs.lemmas.List.{take-append-drop, length-take, length-drop, length-append, length-replicate}
+use Rattle.std.proofs.lemmas.List.Elements.{All-from_get_or, All-append, All-replicate}
 use Rattle.std.proofs.Math.Seq.{drop-append_seam, take-append_seam}
 use Rattle.ft_types.specs.declared.module.Module.{Module}
 use Rattle.ft_types.specs.declared.pattern.Pattern.{Pattern}
 use Rattle.ft_types.specs.declared.instrument.Instrument.{Instrument}
-use Rattle.ft_types.specs.Valid.{IsBytes as AreBytes, IsValid}
+use Rattle.ft_types.specs.Valid.{IsValid}
 use Rattle.ft_types.specs.Plain.{IsPlain}
-use Rattle.ft_format.specs.Canon.{order_table}
-use Rattle.ft_xmread.specs.Song.{IsBare}
+use Rattle.ft_format.specs.Canon.{order_table, pattern_bytes, instrument_bytes}
+use Rattle.ft_xmread.specs.Reading.{not_yet_at, both, checked, times}
+use Rattle.ft_xmread.specs.Pattern.{pattern_at}
 use Rattle.ft_xmread.specs.Header.{RawHeader, header_at, header_text, has_fixed_fields, has_valid_numbers, has_padding, is_written, song_of, header_of}
-use Rattle.ft_xmread.specs.Whole.{is_bare, not_yet_at, song_at}
-use Rattle.ft_xmread.proofs.Lawful.{IsBytes, IsBytes-take, IsField, Lawful, Passes, checked_law, seen_law}
+use Rattle.ft_xmread.specs.Whole.{parts_at, song_at}
+use Rattle.ft_xmread.specs.Instrument.{instrument_at}
+use Rattle.ft_xmread.proofs.InstrumentLaws.{IsInstrument, instrument_law}
+use Rattle.ft_xmread.proofs.Tests.{is_so, not_so, and_split, and_both, eq_is, is_eq, lt_is, is_lt, not_lt, le_is, is_le, fits_limit, zeros, zeros_pass}
+use Rattle.ft_xmread.proofs.Lawful.{IsBytes, IsBytes-take, Lawful, Passes, AllFit, both_law, pair_law, times_law, checked_law, seen_law}
+use Rattle.ft_xmread.proofs.Bytes.{are_bytes, bytes_of, field_of}
 use Rattle.ft_xmread.proofs.HeaderLaws.{HeaderFits, header_law}
+use Rattle.ft_xmread.proofs.PatternLaws.{IsPatternOf, pattern_law}
 
--- ---- tests
+abbrev InstrumentsFit : ℕ → List Instrument → Type 0
+InstrumentsFit count instruments = AllFit count IsInstrument instruments
 
-pub is_so : (b : Bool) → not b ≡ false → b ≡ true
-is_so true e = refl
-is_so false e = sym e
-
-pub not_so : (b : Bool) → b ≡ true → not b ≡ false
-not_so b e = ap not e
-
-pub and_split : (a b : Bool) → (a && b) ≡ true → (a ≡ true) × (b ≡ true)
-and_split true b e = (refl, e)
-and_split false b e = absurd cc
-
-pub and_both : (a b : Bool) → a ≡ true → b ≡ true → (a && b) ≡ true
-and_both a b e f = rw (e, f) refl
-
-pub eq_is : (a b : ℕ) → nat_eq a b ≡ true → a ≡ b
-eq_is a b e = grind (arith, nat_tests)
-
-pub is_eq : (a b : ℕ) → a ≡ b → nat_eq a b ≡ true
-is_eq a b e = grind (arith, nat_tests)
-
-pub lt_is : (a b : ℕ) → nat_lt a b ≡ true → a < b
-lt_is a b e = grind (arith, nat_tests)
-
-pub is_lt : (a b : ℕ) → a < b → nat_lt a b ≡ true
-is_lt a b e = grind (arith, nat_tests)
-
-pub not_lt : (a b : ℕ) → b ≤ a → nat_lt a b ≡ false
-not_lt a b e = grind (arith, nat_tests)
-
-pub le_is : (a b : ℕ) → nat_le a b ≡ true → a ≤ b
-le_is a b e = grind (arith, nat_tests)
-
-pub is_le : (a b : ℕ) → a ≤ b → nat_le a b ≡ true
-is_le a b e = grind (arith, nat_tests)
-
-pub fits_limit : (a b : ℕ) → nat_lt a b ≡ false → b ≤ a
-fits_limit a b e = grind (arith, nat_tests)
-
--- nothing but zeros
-pub zeros : (l : List ℕ) → list_all (λ x. x == 0) l ≡ true → l ≡ replicate (length l) 0
-zeros [] h = refl
-zeros (x ∷ l) h =
-    let s = and_split (nat_eq x 0) (list_all (λ x. x == 0) l) h in
-    ap (λ (b : ℕ). b ∷ l) (eq_is x 0 s.0) ∙ ap (λ (r : List ℕ). 0 ∷ r) (zeros l s.1)
-
-pub zeros_pass : (n : ℕ) → list_all (λ x. x == 0) (replicate n 0) ≡ true
-zeros_pass zero = refl
-zeros_pass (suc n) = zeros_pass n
+instruments_law : (count : ℕ) → Lawful (times (λ k. instrument_at (k + 1)) 0 count) (flat_map instrument_bytes) (InstrumentsFit count)
+instruments_law count = times_law (λ k. instrument_at (k + 1)) instrument_bytes IsInstrument (λ k. instrument_law (k + 1)) 0 count
 
 -- ---- what is read is a song
 
-pub record IsBareSong (song : Module) : Type 0 where
+pub record IsSong (song : Module) : Type 0 where
   pub valid : IsValid song
   pub plain : IsPlain song
-  pub bare : IsBare song
 
 pub record Facts (raw : RawHeader) : Type 0 where
   pub table : length raw.orders ≡ 256
@@ -112,9 +70,6 @@ facts raw e =
       padding = zeros (drop raw.sizes.length raw.orders) b.1;
     }
 
-pub are_bytes : (n : ℕ) (l : List ℕ) → IsField n l → AreBytes n l
-are_bytes n l f = record { len = f.0; each = All-from_get_or (λ byte. byte < 256) l 0 (λ i lt. f.1 i) }
-
 table_of : (raw : RawHeader) → Facts raw → raw.sizes.length ≤ 256 → raw.orders ≡ order_table (take raw.sizes.length raw.orders)
 table_of raw f le =
     let n = raw.sizes.length in
@@ -135,8 +90,9 @@ channels_are n e = (grind (arith, nat_tests), grind (arith, nat_tests))
 are_channels : (n : ℕ) → 1 ≤ n → n ≤ 32 → ((n == 0) || nat_lt 32 n) ≡ false
 are_channels n some few = grind (arith, nat_tests)
 
-valid_of : (raw : RawHeader) → HeaderFits raw → Facts raw → IsValid (song_of raw [] [])
-valid_of raw fits f =
+valid_of : (raw : RawHeader) (patterns : List Pattern) (instruments : List Instrument) → HeaderFits raw → Facts raw
+    → AllFit raw.settings.patterns (IsPatternOf raw.sizes.channels) patterns → InstrumentsFit raw.settings.instruments instruments → IsValid (song_of raw patterns instruments)
+valid_of raw patterns instruments fits f ps is =
     let some_length : raw.sizes.length ≤ 256 = fits_limit 256 raw.sizes.length fits.1.0.1.0.1 in
     let n : length (take raw.sizes.length raw.orders) ≡ raw.sizes.length = omega (arith, f.table, length-take raw.sizes.length raw.orders) in
     let channels = channels_are raw.sizes.channels fits.1.0.1.1.1.1 in
@@ -153,65 +109,73 @@ valid_of raw fits f =
       low_tempo = f.low_tempo;
       some_bpm = f.some_bpm;
       low_bpm = f.low_bpm;
-      few_patterns = omega arith;
-      patterns = All-nil _;
-      few_instruments = omega arith;
-      instruments = All-nil _;
+      few_patterns = omega (arith, ps.count, fits_limit 256 raw.settings.patterns fits.1.1.0.0.1);
+      patterns = λ k d lt. (ps.each k d lt).valid;
+      few_instruments = omega (arith, is.count, fits_limit 128 raw.settings.instruments fits.1.1.0.1.0.1);
+      instruments = λ k d lt. (is.each k d lt).valid;
     }
 
 table_length : (orders : List ℕ) → length orders ≤ 256 → length (order_table orders) ≡ 256
 table_length orders le = omega (arith, length-append orders (replicate (256 - length orders) 0), length-replicate {A = ℕ} (256 - length orders) 0)
 
-bytes_of : (l : List ℕ) → All (λ byte. byte < 256) l → IsBytes l
-bytes_of l h i = elim (cases_lt i (length l)) [
-  | inl lt ↦ h i 0 lt
-  | inr le ↦ rw (get_or_past l i 0 le) (omega arith)
-]
-
 table_bytes : (orders : List ℕ) → All (λ order. order < 256) orders → IsBytes (order_table orders)
 table_bytes orders h = bytes_of (order_table orders) (All-append (λ byte. byte < 256) orders (replicate (256 - length orders) 0) h (All-replicate (λ byte. byte < 256) (256 - length orders) 0 (omega arith)))
 
-bare_facts : (raw : RawHeader) → is_bare raw ≡ true → (raw.settings.patterns ≡ 0) × (raw.settings.instruments ≡ 0)
-bare_facts raw e =
-    let a = and_split _ _ e in
-    (eq_is raw.settings.patterns 0 a.0, eq_is raw.settings.instruments 0 a.1)
-
 -- the header is written as the module that it says
-text_of : (raw : RawHeader) → HeaderFits raw → Facts raw → is_bare raw ≡ true → header_text raw ≡ header_text (header_of (song_of raw [] []))
-text_of raw fits f e =
+text_of : (raw : RawHeader) (patterns : List Pattern) (instruments : List Instrument) → HeaderFits raw → Facts raw
+    → length patterns ≡ raw.settings.patterns → length instruments ≡ raw.settings.instruments → header_text raw ≡ header_text (header_of (song_of raw patterns instruments))
+text_of raw patterns instruments fits f ps is =
     let few : raw.sizes.length ≤ 256 = fits_limit 256 raw.sizes.length fits.1.0.1.0.1 in
     let n : length (take raw.sizes.length raw.orders) ≡ raw.sizes.length = omega (arith, f.table, length-take raw.sizes.length raw.orders) in
-    let bare = bare_facts raw e in
     let low : 21 ≤ raw.sizes.size = fits_limit raw.sizes.size 21 fits.1.0.0.1 in
     let size : raw.sizes.size ≡ 276 = omega (arith, f.table, fits.1.1.1.0, low) in
-    same_text raw (header_of (song_of raw [] [])) refl f.mark refl size (sym n) refl refl bare.0 bare.1 f.flags refl refl (table_of raw f few)
+    same_text raw (header_of (song_of raw patterns instruments)) refl f.mark refl size (sym n) refl refl (sym ps) (sym is) f.flags refl refl (table_of raw f few)
 
 abbrev unwritten : RawHeader → Bool
 unwritten raw = not (is_written raw)
 
-abbrev not_bare : RawHeader → Bool
-not_bare raw = not (is_bare raw)
+abbrev Parts : Type 0
+Parts = RawHeader × (List Pattern × List Instrument)
 
-abbrev pub SongFits : RawHeader → Type 0
-SongFits = Passes (Passes HeaderFits unwritten) not_bare
+abbrev song_from : Parts → Module
+song_from x = song_of x.0 x.1.0 x.1.1
 
-is_seen : (raw : RawHeader) → SongFits raw → IsBareSong (song_of raw [] []) × (header_text raw ≡ header_text (header_of (song_of raw [] [])))
-is_seen raw fits =
-    let f = facts raw (is_so (is_written raw) fits.0.1) in (
+abbrev parts_of : Module → Parts
+parts_of song = (header_of song, (song.patterns, song.instruments))
+
+abbrev pub PartsFit : Parts → Type 0
+PartsFit x = Passes HeaderFits unwritten x.0 × (AllFit x.0.settings.patterns (IsPatternOf x.0.sizes.channels) x.1.0 × InstrumentsFit x.0.settings.instruments x.1.1)
+
+abbrev parts_text : Parts → List ℕ
+parts_text x = header_text x.0 ++ (flat_map pattern_bytes x.1.0 ++ flat_map instrument_bytes x.1.1)
+
+abbrev pub song_text : Module → List ℕ
+song_text song = parts_text (parts_of song)
+
+parts_law : Lawful parts_at parts_text PartsFit
+parts_law = both_law (checked unwritten not_yet_at header_at)
+    (λ raw. both (times (pattern_at raw.sizes.channels) 0 raw.settings.patterns) (λ _. times (λ k. instrument_at (k + 1)) 0 raw.settings.instruments))
+    header_text (λ _ x. flat_map pattern_bytes x.0 ++ flat_map instrument_bytes x.1)
+    (Passes HeaderFits unwritten) (λ raw x. AllFit raw.settings.patterns (IsPatternOf raw.sizes.channels) x.0 × InstrumentsFit raw.settings.instruments x.1)
+    (checked_law unwritten not_yet_at header_at header_text HeaderFits header_law)
+    (λ raw fits. let channels = channels_are raw.sizes.channels fits.0.1.0.1.1.1.1 in
+    pair_law _ _ _ _ _ _
+    (times_law (pattern_at raw.sizes.channels) pattern_bytes (IsPatternOf raw.sizes.channels) (λ number. pattern_law raw.sizes.channels number channels.0 channels.1) 0 raw.settings.patterns)
+    (instruments_law raw.settings.instruments))
+
+is_seen : (x : Parts) → PartsFit x → IsSong (song_from x) × (parts_text x ≡ song_text (song_from x))
+is_seen x fits =
+    let f = facts x.0 (is_so (is_written x.0) fits.0.1) in (
       record {
-        valid = valid_of raw fits.0.0 f;
-        plain = record { linear = refl; patterns = All-nil _; instruments = All-nil _ };
-        bare = record { patterns = refl; instruments = refl };
+        valid = valid_of x.0 x.1.0 x.1.1 fits.0.0 f fits.1.0 fits.1.1;
+        plain = record { linear = refl; patterns = λ k d lt. (fits.1.0.each k d lt).plain; instruments = λ k d lt. (fits.1.1.each k d lt).plain };
       },
-      text_of raw fits.0.0 f (is_so (is_bare raw) fits.1),
+      ap (λ (l : List ℕ). l ++ (flat_map pattern_bytes x.1.0 ++ flat_map instrument_bytes x.1.1)) (text_of x.0 x.1.0 x.1.1 fits.0.0 f fits.1.0.count fits.1.1.count),
     )
 
 -- ---- a song is read
 
-field_of : (n : ℕ) (l : List ℕ) → AreBytes n l → IsField n l
-field_of n l b = (b.len, bytes_of l b.each)
-
-fits_of : (song : Module) → IsBareSong song → HeaderFits (header_of song)
+fits_of : (song : Module) → IsSong song → HeaderFits (header_of song)
 fits_of song s =
     let v = s.valid in
     let table : length (order_table song.orders) ≡ 256 = table_length song.orders v.few_orders in (
@@ -219,13 +183,13 @@ fits_of song s =
       (
         ((omega arith, refl), ((omega (arith, v.few_orders), not_lt 256 (length song.orders) v.few_orders), (omega (arith, v.restart, v.few_orders), (omega (arith, v.few_channels), are_channels song.channels v.some_channels v.few_channels)))),
         (
-          (((rw s.bare.patterns (omega arith)), rw s.bare.patterns refl), (((rw s.bare.instruments (omega arith)), rw s.bare.instruments refl), (rw s.plain.linear (omega arith), (omega (arith, v.low_tempo), omega (arith, v.low_bpm))))),
+          ((omega (arith, v.few_patterns), not_lt 256 (length song.patterns) v.few_patterns), ((omega (arith, v.few_instruments), not_lt 128 (length song.instruments) v.few_instruments), (rw s.plain.linear (omega arith), (omega (arith, v.low_tempo), omega (arith, v.low_bpm))))),
           (omega (arith, table), table_bytes song.orders v.orders),
         ),
       ),
     )
 
-written_of : (song : Module) → IsBareSong song → is_written (header_of song) ≡ true
+written_of : (song : Module) → IsSong song → is_written (header_of song) ≡ true
 unfolding has_fixed_fields has_valid_numbers has_padding
 written_of song s =
     let v = s.valid in
@@ -235,9 +199,6 @@ written_of song s =
     (and_both _ _ (and_both _ _ (is_le 1 song.tempo v.some_tempo) (is_le song.tempo 31 v.low_tempo)) (and_both _ _ (is_le 32 song.bpm v.some_bpm) (is_le song.bpm 255 v.low_bpm))))
     (rw (drop-append_seam song.orders (replicate (256 - length song.orders) 0)) (zeros_pass (256 - length song.orders))))
 
-bare_of : (song : Module) → IsBare song → is_bare (header_of song) ≡ true
-bare_of song bare = rw (bare.patterns, bare.instruments) refl
-
 pub same_song : (raw : RawHeader) (patterns : List Pattern) (instruments : List Instrument) (song : Module)
     → raw.titles.name ≡ song.name → raw.titles.tracker ≡ song.tracker → raw.sizes.restart ≡ song.restart → raw.sizes.channels ≡ song.channels
     → true ≡ song.linear → raw.settings.tempo ≡ song.tempo → raw.settings.bpm ≡ song.bpm → take raw.sizes.length raw.orders ≡ song.orders
@@ -245,17 +206,21 @@ pub same_song : (raw : RawHeader) (patterns : List Pattern) (instruments : List 
 same_song raw patterns instruments song name tracker restart channels linear tempo bpm orders all_patterns all_instruments =
     rw (name, tracker, restart, channels, linear, tempo, bpm, orders, all_patterns, all_instruments) refl
 
-song_again : (song : Module) → IsBareSong song → song_of (header_of song) [] [] ≡ song
-song_again song s = same_song (header_of song) [] [] song refl refl refl refl (sym s.plain.linear) refl refl (take-append_seam song.orders (replicate (256 - length song.orders) 0)) (sym s.bare.patterns) (sym s.bare.instruments)
+song_again : (song : Module) → IsSong song → song_from (parts_of song) ≡ song
+song_again song s = same_song (header_of song) song.patterns song.instruments song refl refl refl refl (sym s.plain.linear) refl refl (take-append_seam song.orders (replicate (256 - length song.orders) 0)) refl refl
 
-is_view : (song : Module) → IsBareSong song → SongFits (header_of song) × (song_of (header_of song) [] [] ≡ song) × (header_text (header_of song) ≡ header_text (header_of song))
-is_view song s = (((fits_of song s, not_so (is_written (header_of song)) (written_of song s)), not_so (is_bare (header_of song)) (bare_of song s.bare)), song_again song s, refl)
+parts_fit : (song : Module) → IsSong song → PartsFit (parts_of song)
+parts_fit song s = (
+  (fits_of song s, not_so (is_written (header_of song)) (written_of song s)),
+  (
+    record { count = refl; each = λ k d lt. record { valid = s.valid.patterns k d lt; plain = s.plain.patterns k d lt } },
+    record { count = refl; each = λ k d lt. record { valid = s.valid.instruments k d lt; plain = s.plain.instruments k d lt } },
+  ),
+)
 
-abbrev pub song_text : Module → List ℕ
-song_text song = header_text (header_of song)
+is_view : (song : Module) → IsSong song → PartsFit (parts_of song) × (song_from (parts_of song) ≡ song) × (parts_text (parts_of song) ≡ song_text song)
+is_view song s = (parts_fit song s, song_again song s, refl)
 
-pub song_law : Lawful song_at song_text IsBareSong
+pub song_law : Lawful song_at song_text IsSong
 unfolding song_at
-song_law = seen_law (λ raw. song_of raw [] []) header_of _ header_text SongFits song_text IsBareSong
-    (checked_law not_bare not_yet_at _ header_text (Passes HeaderFits unwritten) (checked_law unwritten not_yet_at header_at header_text HeaderFits header_law))
-    is_seen is_view
+song_law = seen_law song_from parts_of parts_at parts_text PartsFit song_text IsSong parts_law is_seen is_view

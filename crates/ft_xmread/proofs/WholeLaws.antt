@@ -8,8 +8,6 @@ use Rattle.std.proofs.lemmas.Bool.{ltb-false, le-ltb}
 use Rattle.std.proofs.lemmas.List.{ext_get_or}
 use Rattle.std.proofs.Common.{ltb}
 use Rattle.ft_types.specs.declared.module.Module.{Module}
-use Rattle.ft_types.specs.declared.pattern.Pattern.{Pattern}
-use Rattle.ft_types.specs.declared.instrument.Instrument.{Instrument}
 use Rattle.std.proofs.Common.{cond, append_assoc, inl, inr}
 use Rattle.std.proofs.lemmas.List.{append-nil}
 use Rattle.ft_format.specs.Canon.{identification, canon, header_bytes, pattern_bytes, instrument_bytes}
@@ -17,34 +15,30 @@ use Rattle.ft_xmread.specs.declared.fault.XmFault.{XmFault}
 use Rattle.ft_xmread.specs.declared.fault.XmFault.TheVariants as faults
 use Rattle.ft_xmread.specs.Identification.{stands, wrong_from, unless_wrong, identification_at}
 use Rattle.ft_xmread.specs.Reading.{Place, ◌>>=◌, field_at}
-use Rattle.ft_xmread.specs.Header.{header_text}
+use Rattle.ft_xmread.specs.Header.{header_text, header_of}
 use Rattle.ft_xmread.specs.Whole.{song_at, so_far, fault_so_far, or_not_yet, song_behind, song_in}
-use Rattle.ft_xmread.specs.Song.{IsFirstWrong, IsBare, IsSongOf}
+use Rattle.ft_xmread.specs.Song.{IsFirstWrong, IsSongOf}
 use Rattle.ft_xmread.proofs.Lawful.{IsBytes, field_again, bind_ok, passed, field_law}
 use Rattle.ft_xmread.proofs.IdentifiedLaws.{AllFrom, first_is, all_are, is_first}
-use Rattle.ft_xmread.proofs.SongLaws.{IsBareSong, song_text, song_law, eq_is, is_so}
+use Rattle.ft_xmread.proofs.Tests.{eq_is, is_so}
+use Rattle.ft_xmread.proofs.SongLaws.{IsSong, song_text, song_law}
 
 -- ---- the canonical bytes, part by part
 
-header_parts : (song : Module) → header_bytes song ≡ identification ++ song_text song
+header_parts : (song : Module) → header_bytes song ≡ identification ++ header_text (header_of song)
 unfolding header_bytes header_text
 header_parts song = simp (append-nil, append_assoc)
 
-three_parts : (front head patterns instruments whole : List ℕ) → whole ≡ front ++ head → whole ++ (patterns ++ (instruments ++ [])) ≡ front ++ (head ++ (patterns ++ instruments))
+three_parts : (front head patterns instruments whole : List ℕ) → whole ≡ front ++ head → whole ++ (patterns ++ (instruments ++ [])) ≡ front ++ ((head ++ (patterns ++ instruments)) ++ [])
 three_parts front head patterns instruments whole e =
     ap (λ (l : List ℕ). l ++ (patterns ++ (instruments ++ []))) e
     ∙ append_assoc front head (patterns ++ (instruments ++ []))
     ∙ ap (λ (l : List ℕ). front ++ (head ++ (patterns ++ l))) (append-nil instruments)
+    ∙ ap (λ (l : List ℕ). front ++ l) (sym (append-nil (head ++ (patterns ++ instruments))))
 
-pub canon_parts : (song : Module) → canon song ≡ identification ++ (song_text song ++ (flat_map pattern_bytes song.patterns ++ flat_map instrument_bytes song.instruments))
+pub canon_parts : (song : Module) → canon song ≡ identification ++ (song_text song ++ [])
 unfolding canon
-canon_parts song = three_parts identification (song_text song) (flat_map pattern_bytes song.patterns) (flat_map instrument_bytes song.instruments) (header_bytes song) (header_parts song)
-
-bare_parts : (song : Module) → IsBare song → canon song ≡ identification ++ (song_text song ++ [])
-bare_parts song bare =
-    canon_parts song
-    ∙ ap (λ (l : List Pattern). identification ++ (song_text song ++ (flat_map pattern_bytes l ++ flat_map instrument_bytes song.instruments))) bare.patterns
-    ∙ ap (λ (l : List Instrument). identification ++ (song_text song ++ flat_map instrument_bytes l)) bare.instruments
+canon_parts song = three_parts identification (header_text (header_of song)) (flat_map pattern_bytes song.patterns) (flat_map instrument_bytes song.instruments) (header_bytes song) (header_parts song)
 
 -- ---- the identification
 
@@ -235,14 +229,13 @@ gives_song file song bytes e =
     subst (IsSongOf file) k.1 (record {
       valid = t.fits.valid;
       plain = t.fits.plain;
-      bare = t.fits.bare;
-      spelled = parts ∙ sym (bare_parts s.0.0 t.fits.bare);
+      spelled = parts ∙ sym (canon_parts s.0.0);
     })
 
 pub song_gives : (file : List ℕ) (song : Module) → IsSongOf file song → song_in file ≡ Ok song
 unfolding song_in
 song_gives file song s =
-    let fits : IsBareSong song = record { valid = s.valid; plain = s.plain; bare = s.bare } in
-    let whole = s.spelled ∙ bare_parts song s.bare in
+    let fits : IsSong song = record { valid = s.valid; plain = s.plain } in
+    let whole = s.spelled ∙ canon_parts song in
     ap (λ (x : List ℕ). so_far (identification_at (front_of x)) >>= song_behind) whole
     ∙ rw (id_again (song_text song ++ []), song_law.again 17 song [] fits) refl

@@ -94,6 +94,7 @@ pub record HasRanges (header : Header) : Type 0 where
   pub table : length header.orders.now + 20 ≡ header.sizes.size
   pub orders : header.sizes.length ≤ 256
   pub channels : header.sizes.channels ≤ 32
+  pub instruments : header.settings.instruments ≤ 128
 
 -- the numbers fit the fields of a module
 pub record IsNarrow (header : Header) : Type 0 where

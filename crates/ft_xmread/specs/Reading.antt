@@ -1,10 +1,10 @@
 -- Reading a file from left to right, with the first fault that is met. A reading takes a place
 -- and gives a value and the place behind it. Longer parts are made of shorter ones by `both`,
 -- `checked`, `seen` and `times`, and what holds of these holds of every part.
-use Rattle.std.specs.Prelude.{◌≡◌, ℕ, zero, suc, ◌+◌, Bool, List, [], ◌∷◌, length, take, drop, Result, Ok, Err, nat_lt, if◌then◌else◌}
+use Rattle.std.specs.Prelude.{◌≡◌, ℕ, zero, suc, ◌+◌, Bool, true, false, List, [], ◌∷◌, length, take, drop, Result, Ok, Err, nat_lt, if◌then◌else◌}
 use Rattle.byteorder.specs.Endian.{little_number}
 use Rattle.ft_xmread.specs.declared.fault.XmFault.{XmFault}
-use Rattle.ft_xmread.specs.declared.fault.XmFault.TheVariants.{Short, Count, NoMemory}
+use Rattle.ft_xmread.specs.declared.fault.XmFault.TheVariants.{Short, Count, NoMemory, NotYet}
 
 -- a place in the file, and the bytes from there on
 pub record Place : Type 0 where
@@ -42,6 +42,10 @@ checked is_bad fault one p = do
   x ← one p
   if is_bad x.0 then Err (fault p.at x.0) else Ok x
 
+-- refused because it isn't read so far
+abbrev pub not_yet_at : {A : Type 0} → ℕ → A → XmFault
+not_yet_at _ _ = NotYet
+
 -- a number of two bytes that is refused over a limit
 abbrev pub count_at : ℕ → Reading ℕ
 count_at most = checked (nat_lt most) Count (number_at 2)
@@ -59,6 +63,24 @@ times one first (suc n) p = do
   x ← one first p
   others ← times one (suc first) n x.1
   Ok (x.0 ∷ others.0, others.1)
+
+-- a byte that is there or else is 0
+abbrev pub byte_if : Bool → Reading ℕ
+byte_if true p = number_at 1 p
+byte_if false p = Ok (0, p)
+
+-- the next n bytes as a place of their own
+unfoldable pub piece_at : ℕ → Reading Place
+piece_at n p = do
+  f ← field_at n p
+  Ok (record { at = p.at; left = f.0 }, f.1)
+
+-- a part of the next n bytes, and what it leaves of them
+abbrev pub within : {A : Type 0} → ℕ → Reading A → Reading (A × List ℕ)
+within n one p = do
+  piece ← piece_at n p
+  x ← one piece.0
+  Ok ((x.0, x.1.left), piece.1)
 
 -- What a reader answered at a place is this reading, unless memory ran out; it goes on at the
 -- reading's place.

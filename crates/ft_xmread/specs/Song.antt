@@ -1,5 +1,5 @@
 -- Which bytes are a song, which are refused and where, and what a reader answers to them.
-use Rattle.std.specs.Prelude.{◌≡◌, ◌⊎◌, ℕ, ◌<◌, ◌≤◌, List, [], length, Result, Ok, Err, IsTrue, IsFalse}
+use Rattle.std.specs.Prelude.{◌≡◌, ◌⊎◌, ℕ, ◌<◌, ◌≤◌, List, length, Result, Ok, Err, IsTrue, IsFalse}
 use Rattle.ft_types.specs.declared.module.Module.{Module}
 use Rattle.ft_types.specs.Valid.{IsValid}
 use Rattle.ft_types.specs.Plain.{IsPlain}
@@ -15,16 +15,10 @@ pub record IsFirstWrong (file : List ℕ) (at : ℕ) : Type 0 where
   pub wrong : IsFalse (stands file at)
   pub before : (k : ℕ) → k < at → IsTrue (stands file k)
 
--- no patterns and no instruments
-pub record IsBare (song : Module) : Type 0 where
-  pub patterns : song.patterns ≡ []
-  pub instruments : song.instruments ≡ []
-
 -- these are the canonical bytes of a valid and plain module
 pub record IsSongOf (file : List ℕ) (song : Module) : Type 0 where
   pub valid : IsValid song
   pub plain : IsPlain song
-  pub bare : IsBare song
   pub spelled : file ≡ canon song
 
 -- neither a song nor refused by its identification

@@ -1,24 +1,24 @@
 -- A whole file, as far as it is read so far.
-use Rattle.std.specs.Prelude.{◌≡◌, ℕ, List, [], length, Bool, Result, Ok, Err, not, ◌==◌, ◌&&◌, if◌then◌else◌}
+use Rattle.std.specs.Prelude.{◌+◌, ◌≡◌, ℕ, List, length, Result, Ok, Err, not, ◌==◌, if◌then◌else◌}
 use Rattle.ft_types.specs.declared.module.Module.{Module}
+use Rattle.ft_types.specs.declared.pattern.Pattern.{Pattern}
+use Rattle.ft_types.specs.declared.instrument.Instrument.{Instrument}
+use Rattle.ft_xmread.specs.Pattern.{pattern_at}
 use Rattle.ft_xmread.specs.declared.fault.XmFault.{XmFault}
 use Rattle.ft_xmread.specs.declared.fault.XmFault.TheVariants as faults
-use Rattle.ft_xmread.specs.Reading.{Place, Reading, ◌>>=◌, checked, seen}
+use Rattle.ft_xmread.specs.Reading.{Place, Reading, ◌>>=◌, both, checked, seen, times, not_yet_at}
+use Rattle.ft_xmread.specs.Instrument.{instrument_at}
 use Rattle.ft_xmread.specs.Identification.{identification_at}
 use Rattle.ft_xmread.specs.Header.{RawHeader, header_at, is_written, song_of}
 
--- the header says no patterns and no instruments
-abbrev pub is_bare : RawHeader → Bool
-is_bare raw = (raw.settings.patterns == 0) && (raw.settings.instruments == 0)
-
-abbrev pub not_yet_at : {A : Type 0} → ℕ → A → XmFault
-not_yet_at _ _ = faults.NotYet
+-- a header as it is written, then the patterns, then the instruments
+abbrev pub parts_at : Reading (RawHeader × (List Pattern × List Instrument))
+parts_at = both (checked (λ raw. not (is_written raw)) not_yet_at header_at) (λ raw.
+    both (times (pattern_at raw.sizes.channels) 0 raw.settings.patterns) (λ _. times (λ k. instrument_at (k + 1)) 0 raw.settings.instruments))
 
 -- what stands behind the identification
 unfoldable pub song_at : Reading Module
-song_at = seen (λ raw. song_of raw [] [])
-    (checked (λ raw. not (is_bare raw)) not_yet_at
-    (checked (λ raw. not (is_written raw)) not_yet_at header_at))
+song_at = seen (λ x. song_of x.0 x.1.0 x.1.1) parts_at
 
 -- ---- the last step, until the whole grammar is read: no fault but the first is told
 

@@ -124,7 +124,8 @@ fn read_sizes(reader: &mut Reader) -> Result<Sizes, XmFault>
 
 #[tactic(auto, unfolding(crate::specs::Header::settings_at))]
 fn read_settings(reader: &mut Reader) -> Result<Settings, XmFault>
-    ensures { Reads (λ x. x) result reader.new (settings_at reader.old) }
+    ensures value { Reads (λ x. x) result reader.new (settings_at reader.old) }
+    ensures instruments { IfOk result (λ settings. settings.instruments ≤ 128) }
 {
     let patterns = reader.count(MOST_PATTERNS)?;
     let instruments = reader.count(MOST_INSTRUMENTS)?;
@@ -159,7 +160,7 @@ pub fn read_header<'a>(reader: &mut Reader<'a>) -> Result<Header<'a>, XmFault>
 }
 
 /// Whether each byte is 0.
-fn is_all_zero(bytes: &[u8]) -> bool
+pub fn is_all_zero(bytes: &[u8]) -> bool
     ensures { result ≡ list_all (λ byte. byte == 0) bytes.now }
 {
     bytes.iter().all(|byte| *byte == 0)

@@ -5,11 +5,16 @@
 //! fields, and the place of each fault.
 #![tactic(auto)]
 
+mod cell;
+mod deltas;
 mod fault;
 mod header;
 mod identification;
+mod instrument;
+mod pattern;
 mod reader;
 mod reading;
+mod sample;
 
 pub use fault::XmFault;
 pub use reading::read_xm;

@@ -1,7 +1,7 @@
 //! The cursor by which a file is read.
 
 ghost use Rattle.std.specs.Prelude.{◌≡◌, ◌≢◌, ◌+◌, ◌<◌, ◌≤◌, ◌^◌, length, IfOk, Err};
-ghost use Rattle.ft_xmread.specs.Reading.{Place, Reads, field_at, number_at, count_at};
+ghost use Rattle.ft_xmread.specs.Reading.{Place, Reads, field_at, number_at, count_at, piece_at};
 
 use crate::fault::XmFault;
 use byteorder::{ByteOrder, LittleEndian};
@@ -48,6 +48,13 @@ impl<'a> Reader<'a> {
         self.left.len()
     }
 
+    /// The bytes that are left.
+    pub fn rest(&self) -> &'a [u8]
+        ensures { result.now ≡ self.now.left }
+    {
+        self.left
+    }
+
     /// The next `need` bytes; `Short` where fewer are left.
     #[tactic(auto, unfolding(crate::specs::Reading::field_at))]
     pub fn field(&mut self, need: u32) -> Result<&'a [u8], XmFault>
@@ -62,6 +69,16 @@ impl<'a> Reader<'a> {
         self.left = rest;
         self.at += u64::from(need);
         Ok(front)
+    }
+
+    /// A reader of the next `need` bytes alone; `Short` where fewer are left.
+    #[tactic(auto, unfolding(crate::specs::Reading::piece_at, crate::specs::Reading::field_at))]
+    pub fn piece(&mut self, need: u32) -> Result<Reader<'a>, XmFault>
+        ensures { Reads (λ x. x) result self.new (piece_at need self.old) }
+    {
+        let at = self.at;
+        let left = self.field(need)?;
+        Ok(Reader { at, left })
     }
 
     /// The next bytes, as many as the array has.

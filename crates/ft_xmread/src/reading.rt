@@ -12,14 +12,21 @@ ghost use Rattle.ft_xmread.specs.Song.{IsSongOf, IsFirstWrong, HasFault, IsFault
 use crate::fault::XmFault;
 use crate::header::{Header, read_header};
 use crate::identification::read_identification;
+use crate::instrument::read_instruments;
+use crate::pattern::read_patterns;
 use crate::reader::Reader;
-use ft_types::{Instruments, Module, Orders, Patterns};
+use ft_types::{Instrument, Instruments, Module, Orders, Pattern, Patterns};
 use std::alloc::Global;
 
 /// The module of a header that is written as a plain module's.
-fn song_from(alloc: Global, header: &Header) -> Result<Module, XmFault>
+fn song_from(
+    alloc: Global,
+    header: &Header,
+    patterns: Vec<Pattern>,
+    instruments: Vec<Instrument>,
+) -> Result<Module, XmFault>
     requires { IsNarrow header.now }
-    ensures { Reads result (song_of (raw_of header.now) [] []) }
+    ensures { Reads result (song_of (raw_of header.now) patterns.items instruments.items) }
 {
     let orders = &header.orders[..header.sizes.length as usize];
     let orders = Vec::from_slice(alloc, orders)?;
@@ -32,8 +39,8 @@ fn song_from(alloc: Global, header: &Header) -> Result<Module, XmFault>
         tempo: header.settings.tempo as u8,
         bpm: header.settings.bpm as u8,
         orders: Orders::from_vec(orders),
-        patterns: Patterns::new(alloc),
-        instruments: Instruments::new(alloc),
+        patterns: Patterns::from_vec(patterns),
+        instruments: Instruments::from_vec(instruments),
     })
 }
 
@@ -46,10 +53,14 @@ fn read_song(alloc: Global, reader: &mut Reader) -> Result<Module, XmFault>
     if !header.is_written() {
         return Err(XmFault::NotYet);
     }
-    if header.settings.patterns != 0 || header.settings.instruments != 0 {
-        return Err(XmFault::NotYet);
-    }
-    song_from(alloc, &header)
+    let patterns = read_patterns(
+        alloc,
+        reader,
+        header.sizes.channels,
+        header.settings.patterns,
+    )?;
+    let instruments = read_instruments(alloc, reader, header.settings.instruments)?;
+    song_from(alloc, &header, patterns, instruments)
 }
 
 /// This fault as it is told so far: what the rest of the grammar will name is `NotYet`.

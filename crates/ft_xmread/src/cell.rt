@@ -1,0 +1,149 @@
+//! The cells of a pattern.
+
+ghost use Rattle.std.specs.Prelude.{◌≡◌, ◌<◌, ◌+◌, length, IfOk, if◌then◌else◌};
+ghost use Rattle.std.specs.List.{list_all};
+ghost use Rattle.ft_format.specs.Canon.{is_set, mask_of, bytes_of_cell};
+ghost use Rattle.ft_xmread.specs.Reading.{Reads, times, byte_if};
+ghost use Rattle.ft_xmread.specs.Pattern.{has, note_at, overrun, raw_cell_at, cell_at, first_of, is_plain_cell};
+
+use crate::fault::XmFault;
+use crate::reader::Reader;
+use ft_types::Cell;
+use std::alloc::Global;
+
+/// First bytes from here on are masks; lower ones are notes of plain cells.
+const MASK: u8 = 0x80;
+
+// The bits of a mask.
+const NOTE: u8 = 1;
+
+const INSTRUMENT: u8 = 2;
+
+const VOLUME: u8 = 4;
+
+const EFFECT: u8 = 8;
+
+const PARAMETER: u8 = 16;
+
+/// Whether the first byte of a cell says that this byte follows.
+fn has(first: u8, bit: u8) -> bool
+    requires { 0 < bit }
+    ensures { result ≡ has first bit }
+{
+    first < MASK || first / bit % 2 == 1
+}
+
+/// The next byte where the first byte says that it follows, else 0.
+fn byte_if(reader: &mut Reader, follows: bool) -> Result<u8, XmFault>
+    ensures { Reads (λ x. x) result reader.new (byte_if follows reader.old) }
+{
+    if follows {
+        return reader.byte();
+    }
+    Ok(0)
+}
+
+/// The note: a first byte below `MASK` is the note itself.
+fn read_note(reader: &mut Reader, first: u8) -> Result<u8, XmFault>
+    ensures { Reads (λ x. x) result reader.new (note_at first reader.old) }
+{
+    if first < MASK {
+        return Ok(first);
+    }
+    byte_if(reader, first % 2 == NOTE)
+}
+
+/// A cell as the file spells it: its first byte, and the cell.
+#[tactic(auto, unfolding(crate::specs::Pattern::raw_cell_at))]
+fn read_raw_cell(reader: &mut Reader) -> Result<(u8, Cell), XmFault>
+    ensures { Reads (λ x. x) result reader.new (raw_cell_at reader.old) }
+{
+    let first = reader.byte()?;
+    let note = read_note(reader, first)?;
+    let instrument = byte_if(reader, has(first, INSTRUMENT))?;
+    let volume = byte_if(reader, has(first, VOLUME))?;
+    let effect = byte_if(reader, has(first, EFFECT))?;
+    let parameter = byte_if(reader, has(first, PARAMETER))?;
+    let cell = Cell {
+        note,
+        instrument,
+        volume,
+        effect,
+        parameter,
+    };
+    Ok((first, cell))
+}
+
+/// The bit of a mask, where the byte isn't 0.
+fn bit_of(byte: u8, bit: u8) -> u8
+    ensures { result ≡ (if is_set byte then bit else 0) }
+{
+    if byte != 0 { bit } else { 0 }
+}
+
+/// The mask of a cell, as it is written.
+fn mask_of(cell: Cell) -> u8
+    ensures value { result ≡ mask_of (bytes_of_cell cell) }
+    ensures small { result < 32 }
+{
+    bit_of(cell.note, NOTE)
+        + bit_of(cell.instrument, INSTRUMENT)
+        + bit_of(cell.volume, VOLUME)
+        + bit_of(cell.effect, EFFECT)
+        + bit_of(cell.parameter, PARAMETER)
+}
+
+/// Whether this is a plain cell: a note or none, a set volume or none, no effect.
+fn is_plain(cell: Cell) -> bool
+    ensures { result ≡ is_plain_cell cell }
+{
+    if cell.note > 96 {
+        return false;
+    }
+    if cell.volume != 0 && (cell.volume < 0x10 || cell.volume > 0x50) {
+        return false;
+    }
+    cell.effect == 0 && cell.parameter == 0
+}
+
+/// This fault of a cell's bytes, where a missing byte is one past the data.
+fn overrun(pattern: u16, at: u64, fault: XmFault) -> XmFault
+    ensures { result ≡ overrun pattern at fault }
+{
+    match fault {
+        XmFault::Short { .. } => XmFault::CellOverrun { pattern, at },
+        fault => fault,
+    }
+}
+
+/// The next cell in the data of a pattern.
+///
+/// So far it is `NotYet` where the cell isn't plain, or isn't spelled as it is written.
+#[tactic(auto, unfolding(crate::specs::Pattern::cell_at))]
+pub fn read_cell(reader: &mut Reader, pattern: u16) -> Result<Cell, XmFault>
+    ensures { Reads (λ x. x) result reader.new (cell_at pattern reader.old) }
+{
+    let at = reader.place();
+    let (first, cell) = match read_raw_cell(reader) {
+        Ok(raw) => raw,
+        Err(fault) => return Err(overrun(pattern, at, fault)),
+    };
+    if first != first_of(cell) {
+        return Err(XmFault::NotYet);
+    }
+    if !is_plain(cell) {
+        return Err(XmFault::NotYet);
+    }
+    Ok(cell)
+}
+
+/// The first byte of a cell, as it is written.
+fn first_of(cell: Cell) -> u8
+    ensures { result ≡ first_of cell }
+{
+    let mask = mask_of(cell);
+    if mask == 31 {
+        return cell.note;
+    }
+    MASK + mask
+}
