@@ -1,3 +1,3 @@
 pub mod Output
 pub mod Refusals
-pub mod Silence
+pub mod Underway

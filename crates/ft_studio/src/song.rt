@@ -6,7 +6,7 @@ ghost use Rattle.ft_types.specs.Valid.{IsValid};
 ghost use Rattle.ft_types.specs.Plain.{IsPlain};
 ghost use Rattle.ft_outer.specs.Counts.{Rose};
 ghost use Rattle.ft_xmread.specs.declared.fault.XmFault.{XmFault as Fault};
-ghost use Rattle.ft_xmread.specs.Song.{IsBare, IsSongOf, HasFault};
+ghost use Rattle.ft_xmread.specs.Song.{IsSongOf, HasFault};
 ghost use Rattle.ft_studio.specs.Run.{IsAccepted, Refuses, RefusesBig, IsUnread, refusal_of};
 
 use crate::status::{SongFault, Status};
@@ -25,7 +25,6 @@ pub fn read_song<S: Source>(alloc: Global, source: &mut S) -> Result<Module, Sta
     // A song that is read is valid and plain, and where the source is told, its bytes are the song's.
     ensures valid { IfOk result IsValid }
     ensures plain { IfOk result IsPlain }
-    ensures bare { IfOk result IsBare }
     ensures told { IfOk result (λ song. IfSome (S.left source.old) (λ file. IsSongOf file song)) }
     ensures whole { OnOk result (IfSome (S.left source.old) (λ _. S.left source.new ≡ Some [])) }
     ensures counts { OnOk result (S.faults source.new ≡ S.faults source.old) }
