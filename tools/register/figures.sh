@@ -40,12 +40,18 @@ milliseconds() {
     local best=999999 start end run
     for run in 1 2 3 4 5; do
         start=$(date +%s%N)
-        "$program" "$1" 20
+        "$program" "$1" 10
         end=$(date +%s%N)
-        run=$(((end - start) / 20000))
+        run=$(((end - start) / 10000))
         [ "$run" -lt "$best" ] && best=$run
     done
     echo "$((best / 1000)).$(printf %03d $((best % 1000)))"
 }
+# Instructions of one round of $1, in thousands.
+thousands() {
+    echo $((($(instructions "$1" 3) - $(instructions "$1" 1)) / 2000))
+}
+echo "open of 16384 segments: $(thousands open) thousand instructions"
+echo "plain copy of the same bytes: $(thousands copy) thousand instructions"
 echo "open of 16384 segments: $(milliseconds open) ms"
 echo "plain copy of the same bytes: $(milliseconds copy) ms"

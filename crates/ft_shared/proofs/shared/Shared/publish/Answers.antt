@@ -1,4 +1,4 @@
-use Rattle.std.proofs.Common.{rules, ap, ◌∙◌, ◌≡◌, ◌≢◌, ◌≤◌, ◌+◌, ◌*◌, ◌%◌, ℕ, true, false, List, length, set, slice_index_or, subst, sym, refl, arith, get_or-set_same, length-set, []}
+use Rattle.std.proofs.Common.{rules, ap, ◌∙◌, ◌≡◌, ◌≢◌, ◌≤◌, ◌+◌, ◌*◌, ℕ, true, false, List, length, set, slice_index_or, subst, sym, refl, arith, get_or-set_same, length-set, []}
 use mathlib.Core.Option.{none}
 use Rattle.atomic_table.specs.Table.{Allows, step}
 use Rattle.ft_shared.specs.declared.law.Sizes.{Sizes}
