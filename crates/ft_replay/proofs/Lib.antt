@@ -16,3 +16,4 @@ pub mod Seats
 pub mod Sounds
 pub mod Parts
 pub mod Played
+pub mod Octaves
