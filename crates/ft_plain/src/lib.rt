@@ -19,6 +19,8 @@ mod rows;
 mod seats;
 mod settle;
 mod sides;
+#[cfg(test)]
+mod tests;
 mod tick;
 mod time;
 mod value;

@@ -51,7 +51,7 @@ fn power_at(part: u32) -> u32
 
 /// The frequency of a linear period, of 65,536 a hertz.
 #[tactic(auto, unfolding(ft_replay::specs::Pitch::linear_frequency))]
-fn linear_frequency(period: u16) -> u64
+pub fn linear_frequency(period: u16) -> u64
     requires some { 1 ≤ period }
     requires playable { period ≤ 31999 }
     ensures value { result ≡ pitch.linear_frequency period }

@@ -25,6 +25,7 @@ pub fn tick_frames(control: &mut Control, rate: u32) -> u32
     requires low { 8000 ≤ rate }
     requires high { rate ≤ 48000 }
     ensures frames { result ≡ pitch.tick_frames rate control.old }
+    ensures rest { control.new.carry < 510 }
     ensures control { control.new ≡ pitch.carried rate control.old }
 {
     let room = tick_room(control, rate);

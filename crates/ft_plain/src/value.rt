@@ -51,10 +51,14 @@ pub fn value_at(frames: &[i16], position: u64) -> i32
 {
     let place = (position >> 32) as usize;
     let fraction = (position % (1 << 32)) as u32;
+    let last = frames.len().saturating_sub(1);
+    if place < last {
+        return line(frames[place], frames[place + 1], fraction);
+    }
     line(frame_at(frames, place), frame_at(frames, place + 1), fraction)
 }
 
-/// What a value adds to a side by its gain, of 65,536.
+/// What a value adds to a side by its gain, of 65,536. The product fits 32 bits.
 #[tactic(auto, unfolding(ft_replay::specs::Sound::gained))]
 pub fn gained(value: i32, gain: u32) -> i32
     requires gain { gain ≤ 65536 }
@@ -64,5 +68,5 @@ pub fn gained(value: i32, gain: u32) -> i32
     ensures low { negsuc 8191 ≤ℤ result }
     ensures high { result ≤ℤ pos 8191 }
 {
-    ((i64::from(value) * i64::from(gain)) >> 18) as i32
+    (value * gain as i32) >> 18
 }

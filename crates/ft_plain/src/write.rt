@@ -13,7 +13,7 @@ use crate::sides::Sides;
 use ft_replay::Channel;
 
 /// A sum brought into -32,768 to 32,767.
-fn clip(sum: i32) -> i16
+pub fn clip(sum: i32) -> i16
     ensures { result ≡ sound.clipped sum }
 {
     sum.clamp(-32768, 32767) as i16

@@ -1,5 +1,5 @@
 -- Pitch and time: periods, frequencies, steps, and the frames of a tick.
-use Rattle.std.specs.Prelude.{ℕ, ◌+◌, ◌-◌, ◌*◌, ◌/◌, ◌%◌, ◌^◌, ◌==◌, ℤ, pos, negsuc, ◌+ℤ◌, ◌-ℤ◌, Bool, false, List, [], ◌∷◌, slice_index, nat_le, nat_abs, if◌then◌else◌}
+use Rattle.std.specs.Prelude.{ℕ, ◌+◌, ◌-◌, ◌*◌, ◌/◌, ◌%◌, ◌^◌, ◌==◌, ℤ, pos, negsuc, ◌+ℤ◌, ◌-ℤ◌, ◌*ℤ◌, Bool, false, List, [], ◌∷◌, slice_index, nat_le, nat_abs, if◌then◌else◌}
 use Rattle.std.specs.Int.Signed.{shr_z}
 use Rattle.ft_replay.specs.declared.state.Control.{Control}
 
@@ -40,6 +40,17 @@ unfoldable pub linear_frequency : ℕ → ℕ
 linear_frequency period =
     let up = 4608 + 36 * 768 - period in
     8363 * power_at (up % 768) * 2 ^ (up / 768) / 2 ^ 36
+
+-- the same with octaves counted from the period 4608: those above multiply, and those below divide
+abbrev pub by_octaves : ℕ → ℤ → ℕ
+by_octaves n (pos up) = n * 2 ^ up
+by_octaves n (negsuc down) = n / 2 ^ (down + 1)
+
+unfoldable pub frequency_by_octaves : ℕ → ℕ
+frequency_by_octaves period =
+    let d = pos 4608 -ℤ pos period in
+    let octave = floor_div d 768 in
+    by_octaves (8363 * power_at (nat_abs (d -ℤ (pos 768 *ℤ octave)))) octave
 
 -- frames of the sample for each frame of output, with 32 bits of fraction
 unfoldable pub step_of : ℕ → ℕ → ℕ
