@@ -10,8 +10,8 @@ use Rattle.ft_types.specs.declared.instrument.Vibrato.{Vibrato}
 use Rattle.ft_types.specs.Valid.{IsValidPoint, IsValidEnvelope}
 use Rattle.ft_types.specs.Plain.{IsOff}
 use Rattle.ft_format.specs.Canon.{byte, u16, u32, point_bytes}
-use Rattle.ft_xmread.specs.declared.instrument.Turns.{Turns}
-use Rattle.ft_xmread.specs.declared.instrument.Extra.{Extra}
+use Rattle.ft_xmread.specs.declared.envelopes.Turns.{Turns}
+use Rattle.ft_xmread.specs.declared.envelopes.Extra.{Extra}
 use Rattle.ft_xmread.specs.Instrument.{point_at, two_at, turns_at, vibrato_at, extra_at, is_off_envelope, is_still, is_plain_extra}
 use Rattle.ft_xmread.proofs.Tests.{and_split, and_both, eq_is, is_eq, le_is, is_le}
 use Rattle.ft_xmread.proofs.Lawful.{Lawful, IsField, IsNumber, AllFit, field_law, byte_law, u16_law, u32_law, pair_law, kept_law, times_law}

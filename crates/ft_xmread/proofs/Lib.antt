@@ -11,6 +11,7 @@ pub mod Bytes
 pub mod FrameLaws
 pub mod SampleLaws
 pub mod ExtraLaws
+pub mod InstrumentParts
 pub mod InstrumentLaws
 pub mod SongLaws
 pub mod WholeLaws

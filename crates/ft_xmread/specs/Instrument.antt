@@ -9,8 +9,8 @@ use Rattle.ft_types.specs.declared.instrument.Vibrato.{Vibrato}
 use Rattle.ft_types.specs.declared.sample.Sample.{Sample}
 use Rattle.ft_xmread.specs.declared.fault.XmFault.TheVariants.{Count}
 use Rattle.ft_xmread.specs.declared.instrument.InstrumentHead.{InstrumentHead}
-use Rattle.ft_xmread.specs.declared.instrument.Turns.{Turns}
-use Rattle.ft_xmread.specs.declared.instrument.Extra.{Extra}
+use Rattle.ft_xmread.specs.declared.envelopes.Turns.{Turns}
+use Rattle.ft_xmread.specs.declared.envelopes.Extra.{Extra}
 use Rattle.ft_xmread.specs.declared.sample.SampleHeader.{SampleHeader}
 use Rattle.ft_xmread.specs.Reading.{Reading, field_at, number_at, count_at, both, checked, seen, times, within, not_yet_at}
 use Rattle.ft_xmread.specs.Sample.{sample_header_at, narrow_frames}

@@ -7,6 +7,7 @@
 
 mod cell;
 mod deltas;
+mod envelopes;
 mod fault;
 mod header;
 mod identification;

@@ -74,3 +74,67 @@ fn another_length_is_refused(rt: HostRuntime) -> Result<(), Fail> {
     assert!(rt; bytes.is_empty());
     Ok(())
 }
+
+/// The silent song with one pattern of 64 rows, a note C-4 of instrument 1 in its first cell,
+/// and one instrument with a sample of four frames. 782 bytes.
+fn one_note_song(alloc: Global) -> Result<Vec<u8>, Fail> {
+    let mut bytes = silent_song(alloc)?;
+    *bytes.get_mut(70).ok_or("patterns")? = 1;
+    *bytes.get_mut(72).ok_or("instruments")? = 1;
+    bytes.extend_from_slice(&[9, 0, 0, 0, 0, 64, 0, 130, 0])?;
+    bytes.extend_from_slice(&[0x83, 49, 1])?;
+    bytes.extend_from_slice(&[0x80; 127])?;
+    bytes.extend_from_slice(&[0x07, 0x01, 0, 0])?;
+    bytes.extend_from_slice(&[0x20; 22])?;
+    bytes.extend_from_slice(&[0, 1, 0, 40, 0, 0, 0])?;
+    bytes.extend_from_slice(&[0; 230])?;
+    bytes.extend_from_slice(&[4, 0, 0, 0, 0, 0, 0, 0, 0, 0, 0, 0, 64, 0xFE, 0, 128, 12, 0])?;
+    bytes.extend_from_slice(&[0x20; 22])?;
+    bytes.extend_from_slice(&[64, 0, 0x90, 0x10])?;
+    Ok(bytes)
+}
+
+#[test]
+fn a_note_and_its_sample_are_read(rt: HostRuntime) -> Result<(), Fail> {
+    let bytes = one_note_song(rt.alloc())?;
+    assert_eq!(rt; bytes.len(), 782);
+    let song = read_xm(rt.alloc(), &bytes).ok().ok_or("it is read")?;
+    let pattern = song.patterns.get(0).ok_or("a pattern")?;
+    assert_eq!(rt; pattern.rows, 64);
+    assert_eq!(rt; pattern.cells.len(), 128);
+    let cell = pattern.cells.get(0).ok_or("a cell")?;
+    assert_eq!(rt; (cell.note, cell.instrument, cell.volume), (49, 1, 0));
+    let instrument = song.instruments.get(0).ok_or("an instrument")?;
+    assert_eq!(rt; instrument.name, [0x20; 22]);
+    let sample = instrument.samples.get(0).ok_or("a sample")?;
+    assert_eq!(rt; sample.volume, 64);
+    assert_eq!(rt; sample.finetune, -2);
+    assert_eq!(rt; sample.relative, 12);
+    assert_eq!(rt; sample.panning, 128);
+    assert_eq!(rt; sample.frames.as_slice(), [64, 64, -48, -32].as_slice());
+    Ok(())
+}
+
+#[test]
+fn another_spelling_of_a_note_is_refused(rt: HostRuntime) -> Result<(), Fail> {
+    for (at, byte) in [
+        (340, 1),
+        (343, 129),
+        (345, 0x82),
+        (345, 0x31),
+        (348, 0x81),
+        (475, 30),
+        (502, 2),
+        (504, 41),
+        (738, 5),
+        (752, 1),
+    ] {
+        let mut bytes = one_note_song(rt.alloc())?;
+        *bytes.get_mut(at).ok_or("within the file")? = byte;
+        assert!(rt;
+            read_xm(rt.alloc(), &bytes).err() == Some(XmFault::NotYet),
+            "at {at}"
+        );
+    }
+    Ok(())
+}

@@ -2,7 +2,7 @@ use Rattle.std.proofs.Common.{◌≡◌, ◌-◌, length, take}
 use Rattle.ft_xmread.specs.Reading.{times}
 use Rattle.ft_xmread.specs.Instrument.{point_at}
 use Rattle.ft_xmread.proofs.Loop.{with_front}
-use Rattle.ft_xmread.proofs.instrument.read_points.Given as goal
+use Rattle.ft_xmread.proofs.envelopes.read_points.Given as goal
 
 abbrev pub invariant-loop-k : goal.invariant-loop-k
 invariant-loop-k l = record {

@@ -3,7 +3,7 @@ use Rattle.std.proofs.lemmas.List.{length-set, take_more_set, take_all}
 use Rattle.std.proofs.lemmas.Result.{err_from_is_err_and}
 use Rattle.ft_xmread.specs.Instrument.{point_at, points_at}
 use Rattle.ft_xmread.proofs.Loop.{goes_on, fails_on, is_done}
-use Rattle.ft_xmread.proofs.instrument.read_points.Goals as goal
+use Rattle.ft_xmread.proofs.envelopes.read_points.Goals as goal
 
 pub returns-in_err-points : goal.returns-in_err-points
 returns-in_err-points c =
