@@ -16,8 +16,5 @@ pub mod Seats
 pub mod Sounds
 pub mod Parts
 pub mod Played
-<<<<<<< HEAD
 pub mod Playing
-=======
 pub mod Octaves
->>>>>>> 57c3762aaca4b5a12dc9655c48c8cb7fd7b6cfec
