@@ -1,6 +1,7 @@
 //! Runs over sources and sinks in memory.
 
 mod helpers;
+mod notes;
 mod outside;
 mod refusals;
 mod silence;

@@ -29,6 +29,30 @@ pub fn silent_song(alloc: Global) -> Result<Vec<u8>, AllocError> {
     Ok(song)
 }
 
+/// A song of one note, C-4 in the first row of the first of two channels, and of one sample of four
+/// frames: 782 bytes.
+pub fn one_note_song(alloc: Global) -> Result<Vec<u8>, AllocError> {
+    let mut song = silent_song(alloc)?;
+    if song.len() > 72 {
+        song[70] = 1;
+        song[72] = 1;
+    }
+    // the pattern: its head, the one cell, and 127 empty ones
+    song.extend_from_slice(&[9, 0, 0, 0, 0, 64, 0, 130, 0])?;
+    song.extend_from_slice(&[0x83, 49, 1])?;
+    song.extend_from_slice(&[0x80; 127])?;
+    // the instrument's head, of one sample
+    song.extend_from_slice(&[7, 1, 0, 0])?;
+    song.extend_from_slice(&[0; 23])?;
+    song.extend_from_slice(&[1, 0, 40, 0, 0, 0])?;
+    song.extend_from_slice(&[0; 230])?;
+    // the sample's header, and its steps
+    song.extend_from_slice(&[4, 0, 0, 0, 0, 0, 0, 0, 0, 0, 0, 0, 64, 0, 0, 128, 0, 0])?;
+    song.extend_from_slice(&[0; 22])?;
+    song.extend_from_slice(&[64, 0, 0, 0])?;
+    Ok(song)
+}
+
 /// A sink that takes all, and counts the bytes.
 #[derive(Drop)]
 pub struct Counter {

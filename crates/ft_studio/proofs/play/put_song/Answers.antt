@@ -21,7 +21,7 @@ returns-in_err-put_frames_through-clause-front g c =
     let p = err_from_is_err_and c.from_residual.result c.from_residual.ensures.1 in
     let some : 1 ≤ c.loop-left.left = omega arith in
     let piece = piece_is c.args.song.now c.loop-left.replayer.song c.args.rate c.loop-left.replayer.rate c.loop-left.replayer.state c.loop-left.left c.min-count.result c.tick-tick.result c.tick-tick.new.out
-        c.loop-left.invariant.song c.loop-left.invariant.rate c.tick-tick.ensures.place c.min-count.ensures c.tick-tick.ensures.sound in
+    c.loop-left.invariant.song c.loop-left.invariant.rate c.tick-tick.ensures.place c.min-count.ensures c.tick-tick.ensures.sound in
     let part = subst (λ (numbers : List ℤ). TakesFront (g.W.Sink.held c.loop-left.wav) (g.W.Sink.held c.put_frames_through.new.sink) (sound_bytes numbers)) piece c.in_err-put_frames_through.ensures.front in
     rw p.1 (ends c.args.song.now c.args.rate c.args.frames _ _ _ c.loop-left.replayer.state c.loop-left.left some c.loop-left.invariant.under part)
 
@@ -29,10 +29,10 @@ pub loop-left-preserved : goal.loop-left-preserved
 loop-left-preserved g c =
     let some : 1 ≤ c.loop-left.left = omega arith in
     let piece = piece_is c.args.song.now c.loop-left.replayer.song c.args.rate c.loop-left.replayer.rate c.loop-left.replayer.state c.loop-left.left c.min-count.result c.tick-tick.result c.tick-tick.new.out
-        c.loop-left.invariant.song c.loop-left.invariant.rate c.tick-tick.ensures.place c.min-count.ensures c.tick-tick.ensures.sound in
+    c.loop-left.invariant.song c.loop-left.invariant.rate c.tick-tick.ensures.place c.min-count.ensures c.tick-tick.ensures.sound in
     let took = subst (λ (numbers : List ℤ). Appends (g.W.Sink.held c.loop-left.wav) (g.W.Sink.held c.put_frames_through.new.sink) (sound_bytes numbers)) piece c.in_ok-put_frames_through.ensures.whole in
     let fewer = left_is c.args.song.now c.loop-left.replayer.song c.args.rate c.loop-left.replayer.rate c.loop-left.replayer.state c.loop-left.left c.min-count.result c.tick-tick.result
-        c.loop-left.invariant.song c.loop-left.invariant.rate c.tick-tick.ensures.place c.min-count.ensures in
+    c.loop-left.invariant.song c.loop-left.invariant.rate c.tick-tick.ensures.place c.min-count.ensures in
     record {
       song = c.tick-tick.ensures.song ∙ c.loop-left.invariant.song;
       rate = c.tick-tick.ensures.rate ∙ c.loop-left.invariant.rate;

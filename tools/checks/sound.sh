@@ -1,0 +1,30 @@
+#!/usr/bin/env bash
+# The program against a slow reading of the sound's rules that was written apart from it: the
+# examples, and a row of songs that reach every rule, byte for byte.
+set -u
+here=$(cd "$(dirname "$0")/../.." && pwd)
+work=$(mktemp -d)
+trap 'rm -rf "$work"' EXIT
+failed=0
+"$here/xmstudio" >/dev/null 2>&1 # builds the program where it is missing
+
+# compare SONG RATE SECONDS
+compare() {
+    python3 "$here/tools/slow_replay.py" "$1" "$2" "$3" >"$work/slow.wav" || failed=1
+    "$here/xmstudio" step "$1" "$work/fast.wav" "$work/ledger" --rate="$2" --seconds="$3" || { echo "$1: status $?"; failed=1; }
+    cmp "$work/slow.wav" "$work/fast.wav" || { echo "$1 at $2 Hz differs"; failed=1; }
+}
+
+for song in silence first scale; do
+    compare "$here/examples/$song.xm" 44100 2
+done
+compare "$here/examples/first.xm" 8363 1
+python3 "$here/tools/varied_songs.py" "$work" 12
+rate=8000
+for song in "$work"/varied*.xm; do
+    compare "$song" "$rate" 2
+    rate=$((rate + 3557))
+    [ "$rate" -gt 48000 ] && rate=8000
+done
+[ "$failed" = 0 ] && echo "the program sounds as its rules say: 16 songs, byte for byte"
+exit "$failed"
