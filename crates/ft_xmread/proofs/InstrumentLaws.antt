@@ -16,7 +16,7 @@ use Rattle.ft_format.specs.Canon.{byte, u16, u32, point_bytes, turn_bytes, vibra
 use Rattle.ft_xmread.specs.declared.envelopes.Extra.{Extra}
 use Rattle.ft_xmread.specs.Reading.{both, checked, not_yet_at}
 use Rattle.ft_xmread.specs.Instrument.{sized_head_at, is_written_head, zero_envelope, zero_instrument, instrument_of, rest_at, instrument_at}
-use Rattle.ft_xmread.proofs.Tests.{is_so, eq_is, not_lt, zeros}
+use Rattle.ft_xmread.proofs.Numbers.{is_so, eq_is, not_lt, zeros}
 use Rattle.ft_xmread.proofs.Bytes.{are_bytes, field_of}
 use Rattle.ft_xmread.proofs.Lawful.{Lawful, IsField, both_law, image_law}
 use Rattle.ft_xmread.proofs.ExtraLaws.{extra_text, ExtraFits, IsOffEnvelope, IsPlainExtra, points_fit}

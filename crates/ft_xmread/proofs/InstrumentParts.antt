@@ -12,7 +12,7 @@ use Rattle.ft_xmread.specs.declared.instrument.InstrumentHead.{InstrumentHead}
 use Rattle.ft_xmread.specs.declared.envelopes.Extra.{Extra}
 use Rattle.ft_xmread.specs.Reading.{Reading, field_at, number_at, both, checked, seen, within, not_yet_at}
 use Rattle.ft_xmread.specs.Instrument.{head_at, is_cut, sized_head_at, extra_at, is_plain_extra, is_written_head, zero_instrument, instrument_of, written_extra_at, sample_at}
-use Rattle.ft_xmread.proofs.Tests.{is_so, not_so, and_split, and_both, eq_is, zeros, zeros_pass}
+use Rattle.ft_xmread.proofs.Numbers.{is_so, not_so, and_split, and_both, eq_is, zeros, zeros_pass}
 use Rattle.ft_xmread.proofs.Bytes.{bytes_of}
 use Rattle.ft_xmread.proofs.Lawful.{IsBytes, Lawful, IsField, IsNumber, IsCount, Passes, FitsWithin, within_text, field_law, byte_law, u32_law, count_law, pair_law, kept_law, within_law, checked_law, image_law}
 use Rattle.ft_xmread.proofs.ExtraLaws.{extra_text, ExtraFits, extra_law, extra_length, IsPlainExtra, plain_from, plain_is}
