@@ -10,7 +10,7 @@ use Rattle.ft_xmread.specs.declared.fault.XmFault.{XmFault}
 use Rattle.ft_xmread.specs.declared.fault.XmFault.TheVariants.{NotYet}
 use Rattle.ft_xmread.specs.Reading.{Place, Reading, number_at, both, checked, seen, byte_if}
 use Rattle.ft_xmread.specs.Pattern.{has, note_at, raw_cell_at, or_overrun, first_of, is_plain_cell, is_written_cell, cell_at}
-use Rattle.ft_xmread.proofs.Tests.{or_right, is_so, not_so, and_split, and_both, eq_is, is_eq, le_is, is_le}
+use Rattle.ft_xmread.proofs.Numbers.{or_right, is_so, not_so, and_split, and_both, eq_is, is_eq, le_is, is_le}
 use Rattle.ft_xmread.proofs.Lawful.{IsBytes, Lawful, Takes, IsNumber, Passes, IsByteIf, byte_if_text, byte_law, byte_if_law, both_law, pair_law, kept_law, checked_law, seen_law, ok_is, no_text}
 
 -- ---- a cell as the file spells it

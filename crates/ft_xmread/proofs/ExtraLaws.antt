@@ -13,7 +13,7 @@ use Rattle.ft_format.specs.Canon.{byte, u16, u32, point_bytes}
 use Rattle.ft_xmread.specs.declared.envelopes.Turns.{Turns}
 use Rattle.ft_xmread.specs.declared.envelopes.Extra.{Extra}
 use Rattle.ft_xmread.specs.Instrument.{point_at, two_at, turns_at, vibrato_at, extra_at, is_off_envelope, is_still, is_plain_extra}
-use Rattle.ft_xmread.proofs.Tests.{and_split, and_both, eq_is, is_eq, le_is, is_le}
+use Rattle.ft_xmread.proofs.Numbers.{and_split, and_both, eq_is, is_eq, le_is, is_le}
 use Rattle.ft_xmread.proofs.Lawful.{Lawful, IsField, IsNumber, AllFit, field_law, byte_law, u16_law, u32_law, pair_law, kept_law, times_law}
 
 -- ---- the parts

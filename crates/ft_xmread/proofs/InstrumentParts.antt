@@ -1,27 +1,21 @@
 -- The two laws of the parts of an instrument: its head, and what stands behind its first 29 bytes.
-use Rattle.std.proofs.Common.{◌≡◌, ℕ, ◌-◌, ◌<◌, ◌≤◌, Bool, true, false, not, cond, List, [], ◌∷◌, ◌++◌, length, replicate, All, refl, sym, ap, subst, ◌∙◌, arith, append_assoc}
+use Rattle.std.proofs.Common.{◌≡◌, ℕ, ◌-◌, ◌<◌, Bool, true, false, not, cond, List, [], ◌∷◌, ◌++◌, length, replicate, refl, sym, ap, ◌∙◌, arith}
 use Rattle.std.specs.Prelude.{nat_lt, nat_eq, ◌&&◌, ◌==◌}
-use Rattle.std.specs.List.{concat, list_all, flat_map}
+use Rattle.std.specs.List.{list_all, flat_map}
 use Rattle.std.proofs.lemmas.List.{append-nil, length-append}
-use Rattle.std.proofs.lemmas.List.Elements.{All-head, All-tail, All-nil, All-cons, All-replicate}
-use Rattle.std.proofs.lemmas.Bool.Decides.{nat_tests}
+use Rattle.std.proofs.lemmas.List.Elements.{All-replicate}
 use Rattle.ft_types.specs.declared.instrument.Instrument.{Instrument}
-use Rattle.ft_types.specs.declared.instrument.Envelope.{Envelope}
-use Rattle.ft_types.specs.declared.instrument.Point.{Point}
-use Rattle.ft_types.specs.declared.instrument.Vibrato.{Vibrato}
 use Rattle.ft_types.specs.declared.sample.Sample.{Sample}
-use Rattle.ft_types.specs.Valid.{IsValidPoint, IsValidInstrument, IsValidSample, IsZeroPoint, IsZeroEnvelope}
-use Rattle.ft_types.specs.Plain.{IsPlainInstrument, IsPlainSample}
-use Rattle.ft_format.specs.Canon.{byte, u16, u32, point_bytes, turn_bytes, vibrato_bytes, short_head, long_head, sample_header_bytes, sample_data, instrument_bytes}
+use Rattle.ft_format.specs.Canon.{byte, u16, u32, sample_header_bytes, sample_data}
 use Rattle.ft_xmread.specs.declared.fault.XmFault.TheVariants.{Count}
 use Rattle.ft_xmread.specs.declared.instrument.InstrumentHead.{InstrumentHead}
 use Rattle.ft_xmread.specs.declared.envelopes.Extra.{Extra}
 use Rattle.ft_xmread.specs.Reading.{Reading, field_at, number_at, both, checked, seen, within, not_yet_at}
-use Rattle.ft_xmread.specs.Instrument.{head_at, is_cut, sized_head_at, extra_at, is_plain_extra, is_written_head, zero_envelope, zero_instrument, instrument_of, written_extra_at, sample_at, rest_at, instrument_at}
-use Rattle.ft_xmread.proofs.Tests.{is_so, not_so, and_split, and_both, eq_is, not_lt, zeros, zeros_pass}
-use Rattle.ft_xmread.proofs.Bytes.{are_bytes, bytes_of, field_of}
-use Rattle.ft_xmread.proofs.Lawful.{IsBytes, Lawful, IsField, IsNumber, IsCount, Passes, FitsWithin, within_text, field_law, byte_law, u32_law, count_law, pair_law, both_law, kept_law, within_law, checked_law, image_law}
-use Rattle.ft_xmread.proofs.ExtraLaws.{extra_text, ExtraFits, extra_law, extra_length, IsOffEnvelope, IsPlainExtra, plain_from, plain_is, points_fit}
+use Rattle.ft_xmread.specs.Instrument.{head_at, is_cut, sized_head_at, extra_at, is_plain_extra, is_written_head, zero_instrument, instrument_of, written_extra_at, sample_at}
+use Rattle.ft_xmread.proofs.Numbers.{is_so, not_so, and_split, and_both, eq_is, zeros, zeros_pass}
+use Rattle.ft_xmread.proofs.Bytes.{bytes_of}
+use Rattle.ft_xmread.proofs.Lawful.{IsBytes, Lawful, IsField, IsNumber, IsCount, Passes, FitsWithin, within_text, field_law, byte_law, u32_law, count_law, pair_law, kept_law, within_law, checked_law, image_law}
+use Rattle.ft_xmread.proofs.ExtraLaws.{extra_text, ExtraFits, extra_law, extra_length, IsPlainExtra, plain_from, plain_is}
 use Rattle.ft_xmread.proofs.SampleLaws.{IsSample, sample_text, sample_law}
 
 -- ---- the head

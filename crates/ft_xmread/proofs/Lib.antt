@@ -2,7 +2,7 @@ pub mod Lawful
 pub mod Loop
 pub mod Identified
 pub mod IdentifiedLaws
-pub mod Tests
+pub mod Numbers
 pub mod Frames
 pub mod HeaderLaws
 pub mod CellLaws

@@ -15,7 +15,7 @@ use Rattle.ft_xmread.specs.declared.fault.XmFault.TheVariants.{Count, Packing, N
 use Rattle.ft_xmread.specs.declared.pattern.PatternHead.{PatternHead}
 use Rattle.ft_xmread.specs.Reading.{Place, Reading, field_at, number_at, both, times, within}
 use Rattle.ft_xmread.specs.Pattern.{cell_at, pattern_head_at, empty_cell, cells_at, is_written_pattern, raw_pattern_at, pattern_at}
-use Rattle.ft_xmread.proofs.Tests.{is_so, not_so, and_split, and_both, eq_is, le_is, is_le, not_lt, fits_limit, or_right}
+use Rattle.ft_xmread.proofs.Numbers.{is_so, not_so, and_split, and_both, eq_is, le_is, is_le, not_lt, fits_limit, or_right}
 use Rattle.ft_xmread.proofs.Lawful.{IsBytes, Lawful, Takes, IsField, IsNumber, IsCount, Passes, AllFit, FitsWithin, field_law, byte_law, u16_law, u32_law, count_law, both_law, pair_law, within_law, times_law, checked_law, seen_law, ok_is, no_text}
 use Rattle.ft_xmread.proofs.CellLaws.{IsCell, cell_law}
 

@@ -15,7 +15,7 @@ use Rattle.ft_xmread.specs.declared.sample.SampleHeader.{SampleHeader}
 use Rattle.ft_xmread.specs.Reading.{field_at, both, checked, not_yet_at}
 use Rattle.ft_xmread.specs.Sample.{sample_fields_at, is_stereo, frames_of, sample_header_at, narrow_frames}
 use Rattle.ft_xmread.specs.Instrument.{is_plain_header, sample_of, sample_at}
-use Rattle.ft_xmread.proofs.Tests.{is_so, not_so, and_split, and_both, eq_is, le_is, is_le, not_lt, fits_limit}
+use Rattle.ft_xmread.proofs.Numbers.{is_so, not_so, and_split, and_both, eq_is, le_is, is_le, not_lt, fits_limit}
 use Rattle.ft_xmread.proofs.Lawful.{Lawful, IsField, IsNumber, Passes, FitsWithin, within_text, field_law, byte_law, u32_law, both_law, pair_law, kept_law, within_law, checked_law, image_law}
 use Rattle.ft_xmread.proofs.FrameLaws.{signed_fits, unsigned_small, data_of, data_back, frames_back, frames_fit, length_frames, length_data, data_bytes}
 use Rattle.ft_xmread.proofs.Bytes.{are_bytes, bytes_of, field_of}

@@ -18,7 +18,7 @@ use Rattle.ft_xmread.specs.Header.{RawHeader, header_at, header_text, has_fixed_
 use Rattle.ft_xmread.specs.Whole.{parts_at, song_at}
 use Rattle.ft_xmread.specs.Instrument.{instrument_at}
 use Rattle.ft_xmread.proofs.InstrumentLaws.{IsInstrument, instrument_law}
-use Rattle.ft_xmread.proofs.Tests.{is_so, not_so, and_split, and_both, eq_is, is_eq, lt_is, is_lt, not_lt, le_is, is_le, fits_limit, zeros, zeros_pass}
+use Rattle.ft_xmread.proofs.Numbers.{is_so, not_so, and_split, and_both, eq_is, is_eq, lt_is, is_lt, not_lt, le_is, is_le, fits_limit, zeros, zeros_pass}
 use Rattle.ft_xmread.proofs.Lawful.{IsBytes, IsBytes-take, Lawful, Passes, AllFit, both_law, pair_law, times_law, checked_law, seen_law}
 use Rattle.ft_xmread.proofs.Bytes.{are_bytes, bytes_of, field_of}
 use Rattle.ft_xmread.proofs.HeaderLaws.{HeaderFits, header_law}

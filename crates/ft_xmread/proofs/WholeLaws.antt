@@ -20,7 +20,7 @@ use Rattle.ft_xmread.specs.Whole.{song_at, so_far, fault_so_far, or_not_yet, son
 use Rattle.ft_xmread.specs.Song.{IsFirstWrong, IsSongOf}
 use Rattle.ft_xmread.proofs.Lawful.{IsBytes, field_again, bind_ok, passed, field_law}
 use Rattle.ft_xmread.proofs.IdentifiedLaws.{AllFrom, first_is, all_are, is_first}
-use Rattle.ft_xmread.proofs.Tests.{eq_is, is_so}
+use Rattle.ft_xmread.proofs.Numbers.{eq_is, is_so}
 use Rattle.ft_xmread.proofs.SongLaws.{IsSong, song_text, song_law}
 
 -- ---- the canonical bytes, part by part
