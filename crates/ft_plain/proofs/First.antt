@@ -4,7 +4,6 @@ use Rattle.std.specs.Prelude.{replicate}
 use Rattle.std.proofs.lemmas.List.{take-replicate}
 use Rattle.ft_types.specs.declared.module.Module.{Module}
 use Rattle.ft_types.specs.declared.voice.Voice.{Voice}
-use Rattle.ft_types.specs.Views.{Owned, Shown}
 use Rattle.ft_replay.specs.declared.state.Channel.{Channel}
 use Rattle.ft_replay.specs.declared.state.Control.{Control}
 use Rattle.ft_replay.specs.declared.state.SongState.{SongState}
@@ -29,12 +28,12 @@ pub first_state : (song : Module) (parts : List (Option Part)) (state : SongStat
 first_state song parts state channels few none control used all silent =
     ap (λ (x : Control). song_of x (seated (take state.used state.channels) state.voices.items) (shown_of song parts)) control
     ∙ ap (λ (l : List Lane). record { control = first_control; lanes = l })
-      (ap (λ (voices : List Voice). lanes_of (seated (take state.used state.channels) voices) (map (owned_in song) parts)) silent
-        ∙ ap (λ (n : ℕ). lanes_of (take n state.channels) (map (owned_in song) parts)) used
-        ∙ ap (λ (l : List Channel). lanes_of (take channels l) (map (owned_in song) parts)) all
-        ∙ ap (λ (l : List Channel). lanes_of l (map (owned_in song) parts)) (take-replicate channels 32 first_channel few)
-        ∙ ap (λ (l : List (Option Part)). lanes_of (replicate channels first_channel) (map (owned_in song) l)) none
-        ∙ unkept song first_channel channels 32)
+    (ap (λ (voices : List Voice). lanes_of (seated (take state.used state.channels) voices) (map (owned_in song) parts)) silent
+    ∙ ap (λ (n : ℕ). lanes_of (take n state.channels) (map (owned_in song) parts)) used
+    ∙ ap (λ (l : List Channel). lanes_of (take channels l) (map (owned_in song) parts)) all
+    ∙ ap (λ (l : List Channel). lanes_of l (map (owned_in song) parts)) (take-replicate channels 32 first_channel few)
+    ∙ ap (λ (l : List (Option Part)). lanes_of (replicate channels first_channel) (map (owned_in song) l)) none
+    ∙ unkept song first_channel channels 32)
 
 -- from which a replayer begins
 pub first_ready : (rate : ℕ) (song : Module) (parts : List (Option Part)) (state : SongState) (channels : ℕ) → 8000 ≤ rate → rate ≤ 48000 → channels ≤ 32 → parts ≡ replicate 32 None
@@ -46,5 +45,5 @@ first_ready rate song parts state channels low high few none control used all si
   high = high;
   seats = λ i d lt. absurd (omega (arith, ap length silent));
   range = subst (λ (s : Song). IsInRange state.used s) (sym (first_state song parts state channels few none control used all silent))
-    (subst (λ (n : ℕ). IsInRange n (first_song channels)) (sym used) (first_in_range channels));
+      (subst (λ (n : ℕ). IsInRange n (first_song channels)) (sym used) (first_in_range channels));
 }

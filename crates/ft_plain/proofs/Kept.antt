@@ -3,7 +3,7 @@ use Rattle.std.proofs.Common.{◌≡◌, ℕ, zero, suc, List, [], ◌∷◌, Op
 use Rattle.std.specs.Prelude.{slice_get}
 use Rattle.std.proofs.lemmas.List.{map-set}
 use Rattle.ft_types.specs.declared.module.Module.{Module}
-use Rattle.ft_types.specs.Views.{Owned, Shown, begun, number_in, head_of_owned, sample_of, instrument_at, keeping}
+use Rattle.ft_types.specs.Views.{Owned, begun, number_in, head_of_owned, sample_of, instrument_at, keeping}
 use Rattle.ft_plain.specs.declared.part.Part.{Part}
 use Rattle.ft_plain.specs.Shows.{owned_in, shown_of}
 

@@ -1,6 +1,5 @@
 -- Laws of the sums of both sides.
-use Rattle.std.proofs.Common.{◌≡◌, ℕ, ◌≤◌, ◌<◌, ◌+◌, ◌*◌, ◌/◌, ◌%◌, ◌^◌, ℤ, pos, negsuc, ◌+ℤ◌, ◌*ℤ◌, Option, None, Some, Bool, true, false, List, [], length, get_or, ltb, refl, ap, sym, ◌∙◌, subst, arith}
-use Rattle.std.specs.Prelude.{◌-ℤ◌, ◌≤ℤ◌, if◌then◌else◌}
+use Rattle.std.proofs.Common.{◌≡◌, ℕ, ◌≤◌, ◌+◌, ◌/◌, ◌%◌, ◌^◌, ℤ, pos, ◌*ℤ◌, Option, None, Some, Bool, false, List, length, get_or, ltb, refl, ap, sym, ◌∙◌, arith}
 use Rattle.std.proofs.lemmas.Bool.{cond_both, ltb-false}
 use Rattle.std.proofs.lemmas.Int.{ints}
 use Rattle.std.proofs.lemmas.List.{get_or_past}
@@ -18,10 +17,10 @@ narrow_in : (sample : Sample) (owned : Option Owned) (frames : List ℤ) (place 
 unfolding place_of
 narrow_in sample owned frames place narrow same reads =
     cond_both (ltb place (length sample.frames)) (Some place) None (λ (p : Option ℕ). value_in (head_of sample) owned p ≡ narrow_at frames place)
-      (λ is. ap (λ (wide : Bool). loudness wide (frame_of owned place)) narrow ∙ ap (λ (z : ℤ). pos 256 *ℤ z) (reads place))
-      (λ is.
-        let past : length sample.frames ≤ place = ltb-false place (length sample.frames) is in
-        ap (λ (z : ℤ). pos 256 *ℤ z) (sym (ap (λ (l : List ℤ). get_or l place (pos 0)) same ∙ get_or_past sample.frames place (pos 0) past)))
+    (λ is. ap (λ (wide : Bool). loudness wide (frame_of owned place)) narrow ∙ ap (λ (z : ℤ). pos 256 *ℤ z) (reads place))
+    (λ is.
+    let past : length sample.frames ≤ place = ltb-false place (length sample.frames) is in
+    ap (λ (z : ℤ). pos 256 *ℤ z) (sym (ap (λ (l : List ℤ). get_or l place (pos 0)) same ∙ get_or_past sample.frames place (pos 0) past)))
 
 -- the value of a narrow sample that a voice owns
 pub value_narrow : (head : SampleHead) (owned : Option Owned) (position : ℕ) → head_of_owned owned ≡ Some head → head.wide ≡ false
@@ -32,7 +31,7 @@ value_narrow head (Some owned) position e narrow =
     let same : head_of owned.sample ≡ head = cc in
     let thin : owned.sample.wide ≡ false = ap (λ (h : SampleHead). h.wide) same ∙ narrow in
     let frame = λ (place : ℕ). ap (λ (h : SampleHead). value_in h (Some owned) (place_of h place)) (sym same)
-        ∙ narrow_in owned.sample (Some owned) owned.sample.frames place thin refl (λ i. refl) in
+    ∙ narrow_in owned.sample (Some owned) owned.sample.frames place thin refl (λ i. refl) in
     ap (λ (first : ℤ). between first (value_in head (Some owned) (place_of head (position / 2 ^ 32 + 1))) (position % 2 ^ 32)) (frame (position / 2 ^ 32))
     ∙ ap (λ (second : ℤ). between (narrow_at owned.sample.frames (position / 2 ^ 32)) second (position % 2 ^ 32)) (frame (position / 2 ^ 32 + 1))
 

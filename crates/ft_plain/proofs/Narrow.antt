@@ -1,5 +1,5 @@
 -- Narrow frames count 256 times, before the line between them or after it.
-use Rattle.std.proofs.Common.{◌≡◌, ℕ, zero, suc, ◌≤◌, ◌<◌, ◌+◌, ◌*◌, ◌/◌, ◌%◌, ◌^◌, ℤ, pos, negsuc, ◌+ℤ◌, ◌*ℤ◌, refl, ap, sym, ◌∙◌, subst, arith}
+use Rattle.std.proofs.Common.{◌≡◌, ℕ, zero, suc, ◌<◌, ◌+◌, ◌*◌, ◌/◌, ◌^◌, ℤ, pos, negsuc, ◌+ℤ◌, ◌*ℤ◌, ap, sym, ◌∙◌, subst, arith}
 use Rattle.std.specs.Prelude.{◌≤ℤ◌, ◌-ℤ◌, FitsSigned}
 use Rattle.std.specs.Int.{w16}
 use lib.IntN.{neg_ℤ}
@@ -46,4 +46,4 @@ line_fits first second r q lt e a b x y =
     let two : FitsSigned w16 (pos 256 *ℤ second) = omega (arith, ints) in
     let apart : (pos 256 *ℤ (second -ℤ first)) ≡ ((pos 256 *ℤ second) -ℤ (pos 256 *ℤ first)) = omega (arith, ints) in
     between_fits (pos 256 *ℤ first) (pos 256 *ℤ second) r one two
-      (subst (λ (z : ℤ). Goes z r) apart (subst (Goes (pos 256 *ℤ (second -ℤ first))) (part_scaled (second -ℤ first) q ∙ sym e) (part_goes (pos 256 *ℤ (second -ℤ first)) q lt)))
+    (subst (λ (z : ℤ). Goes z r) apart (subst (Goes (pos 256 *ℤ (second -ℤ first))) (part_scaled (second -ℤ first) q ∙ sym e) (part_goes (pos 256 *ℤ (second -ℤ first)) q lt)))

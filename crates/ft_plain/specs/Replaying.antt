@@ -1,5 +1,5 @@
 -- What plays: a song at a rate, in a sequential state.
-use Rattle.std.specs.Prelude.{ℕ, ◌≡◌, ◌≤◌, ◌<◌, All}
+use Rattle.std.specs.Prelude.{ℕ, ◌≤◌, ◌<◌, All}
 use Rattle.ft_types.specs.declared.module.Module.{Module}
 use Rattle.ft_types.specs.Views.{Shown}
 use Rattle.ft_replay.specs.declared.state.SongState.{SongState}

@@ -1,5 +1,5 @@
 -- What is shown of a plain module, with the samples that its channels keep.
-use Rattle.std.specs.Prelude.{ℕ, List, Option, None, Some, map, ℤ, []}
+use Rattle.std.specs.Prelude.{List, Option, None, Some, map, ℤ, []}
 use Rattle.ft_types.specs.declared.module.Module.{Module}
 use Rattle.ft_types.specs.Views.{Owned, Shown, sample_of}
 use Rattle.ft_plain.specs.declared.part.Part.{Part}

@@ -73,7 +73,14 @@ fn add_voice(view: &Plain, channel: &Channel, c: u8, sums: &mut [Sides])
     let Some(voice) = channel.voice else {
         return;
     };
-    add_sample(view.frames(c), voice.pos, voice.step, voice.left, voice.right, sums);
+    add_sample(
+        view.frames(c),
+        voice.pos,
+        voice.step,
+        voice.left,
+        voice.right,
+        sums,
+    );
 }
 
 /// Adds the voices of all channels to silent sums.

@@ -16,7 +16,13 @@ use ft_replay::{Channel, Control, Place};
 use ft_types::Voice;
 
 /// Makes a tick, writes its sound, moves the voices on, and ends those that are over.
-fn play_tick(view: &mut Plain, channels: &mut [Channel], control: &mut Control, rate: u32, out: &mut [i16]) -> Place
+fn play_tick(
+    view: &mut Plain,
+    channels: &mut [Channel],
+    control: &mut Control,
+    rate: u32,
+    out: &mut [i16],
+) -> Place
     requires few { length channels.old ≤ 32 }
     requires low { 8000 ≤ rate }
     requires high { rate ≤ 48000 }

@@ -19,12 +19,22 @@ fn periods_frequencies_and_steps(rt: HostRuntime) {
 
 #[test]
 fn frames_at_the_ends_of_rate_and_bpm(rt: HostRuntime) {
-    for (rate, bpm, want) in [(8000, 32, 625), (8000, 255, 78), (48000, 32, 3750), (48000, 255, 470), (44100, 130, 848)] {
+    for (rate, bpm, want) in [
+        (8000, 32, 625),
+        (8000, 255, 78),
+        (48000, 32, 3750),
+        (48000, 255, 470),
+        (44100, 130, 848),
+    ] {
         let mut control = Control {
             bpm,
             ..Control::default()
         };
-        assert_eq!(rt; tick_frames(&mut control, rate), want, "at {rate} and {bpm}");
+        assert_eq!(rt;
+            tick_frames(&mut control, rate),
+            want,
+            "at {rate} and {bpm}"
+        );
     }
 }
 

@@ -16,7 +16,12 @@ use ft_replay::{Channel, Control, Place};
 /// Makes the state of a tick, with its voices at their first frame, and says where
 /// the tick is and how many frames it has.
 #[tactic(auto, unfolding(ft_replay::specs::Tick::tick_made))]
-pub fn make_tick(view: &mut Plain, channels: &mut [Channel], control: &mut Control, rate: u32) -> Place
+pub fn make_tick(
+    view: &mut Plain,
+    channels: &mut [Channel],
+    control: &mut Control,
+    rate: u32,
+) -> Place
     requires few { length channels.old ≤ 32 }
     requires low { 8000 ≤ rate }
     requires high { rate ≤ 48000 }

@@ -13,7 +13,11 @@ fn tick_room(control: &Control, rate: u32) -> u32
     ensures value { result ≡ pitch.tick_room rate control.now }
     ensures bounded { result ≤ 240509 }
 {
-    let carry = if control.bpm == control.last_bpm { control.carry } else { 0 };
+    let carry = if control.bpm == control.last_bpm {
+        control.carry
+    } else {
+        0
+    };
     5 * rate + carry
 }
 

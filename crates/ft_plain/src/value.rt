@@ -55,7 +55,11 @@ pub fn value_at(frames: &[i16], position: u64) -> i32
     if place < last {
         return line(frames[place], frames[place + 1], fraction);
     }
-    line(frame_at(frames, place), frame_at(frames, place + 1), fraction)
+    line(
+        frame_at(frames, place),
+        frame_at(frames, place + 1),
+        fraction,
+    )
 }
 
 /// What a value adds to a side by its gain, of 65,536. The product fits 32 bits.

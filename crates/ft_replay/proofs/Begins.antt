@@ -1,5 +1,5 @@
 -- A note that begins no voice.
-use Rattle.std.proofs.Common.{◌≡◌, ℕ, ◌-◌, ◌&&◌, Option, None, Some, Bool, true, false, get_or, refl, ap, sym, ◌∙◌}
+use Rattle.std.proofs.Common.{◌≡◌, ℕ, ◌-◌, ◌&&◌, Option, None, Some, Bool, true, false, refl, ap, ◌∙◌}
 use Rattle.std.specs.Prelude.{nat_lt}
 use Rattle.std.proofs.lemmas.List.{set-set}
 use Rattle.ft_types.specs.declared.module.Module.{Module}

@@ -1,5 +1,5 @@
 -- The samples of a valid song have heads in range.
-use Rattle.std.proofs.Common.{◌≡◌, ℕ, zero, suc, ◌≤◌, ◌<◌, Option, None, Some, Bool, true, false, List, length, get_or, eqb, refl, ap, sym, ◌∙◌, subst, arith}
+use Rattle.std.proofs.Common.{◌≡◌, ℕ, zero, suc, ◌≤◌, Option, None, Some, List, length, eqb, refl, subst, arith}
 use Rattle.std.specs.Prelude.{All, slice_get}
 use Rattle.std.proofs.lemmas.Option.{slice_get_within, get_or_from_slice_get}
 use Rattle.std.proofs.lemmas.Bool.{eqb-false, cond_both}
@@ -8,7 +8,7 @@ use Rattle.ft_types.specs.declared.pattern.Pattern.{Pattern}
 use Rattle.ft_types.specs.declared.instrument.Instrument.{Instrument}
 use Rattle.ft_types.specs.declared.sample.Sample.{Sample}
 use Rattle.ft_types.specs.Valid.{IsValid, IsValidInstrument, IsValidSample, IsValidPattern}
-use Rattle.ft_types.specs.Views.{Owned, begun, sample_of, sounding, sample_in, instrument_at, number_in, head_of, rows_in, rows_at}
+use Rattle.ft_types.specs.Views.{Owned, begun, sounding, sample_in, instrument_at, number_in, head_of, rows_in, rows_at}
 use Rattle.ft_replay.specs.Range.{IsHeadInRange}
 
 -- what is there is one of all
@@ -26,16 +26,16 @@ valid_sounding version instrument number None valid = tt
 valid_sounding version instrument number (Some sample) valid =
     let ok = valid sample refl in
     cond_both (eqb (length sample.frames) 0) None _ HasHead (λ is. tt)
-      (λ is.
-        let some = eqb-false (length sample.frames) 0 is in
-        record {
-          some_frames = omega arith;
-          few_frames = ok.few_frames;
-          volume = ok.volume;
-          panning = ok.panning;
-          finetune = ok.finetune;
-          relative = ok.relative;
-        })
+    (λ is.
+    let some = eqb-false (length sample.frames) 0 is in
+    record {
+      some_frames = omega arith;
+      few_frames = ok.few_frames;
+      volume = ok.volume;
+      panning = ok.panning;
+      finetune = ok.finetune;
+      relative = ok.relative;
+    })
 
 valid_instrument : (song : Module) (number : ℕ) (instrument : Instrument) → IsValid song → instrument_at song number ≡ Some instrument → IsValidInstrument instrument
 valid_instrument song zero instrument valid is = absurd cc
@@ -51,7 +51,7 @@ unfolding begun
 begun_head version song instrument note valid =
     let number = number_in (instrument_at song instrument) note in
     valid_sounding version instrument number (sample_in (instrument_at song instrument) number)
-      (valid_in (instrument_at song instrument) number (λ x is. valid_instrument song instrument x valid is))
+    (valid_in (instrument_at song instrument) number (λ x is. valid_instrument song instrument x valid is))
 
 -- ---- rows
 

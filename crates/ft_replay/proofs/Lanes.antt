@@ -1,14 +1,12 @@
 -- Channels with what is kept for each.
-use Rattle.std.proofs.Common.{◌≡◌, ℕ, zero, suc, ◌≤◌, ◌<◌, ◌+◌, List, [], ◌∷◌, Option, None, Some, Bool, true, false, length, get_or, set, map, eqb, ◌≢◌, refl, ap, sym, ◌∙◌, arith, add-one}
-use Rattle.std.proofs.lemmas.Bool.{ne_eqb}
-use Rattle.std.proofs.lemmas.List.{length-map, set-set, set-get_or, get_or-set_same}
+use Rattle.std.proofs.Common.{◌≡◌, ℕ, zero, suc, ◌≤◌, ◌<◌, ◌+◌, List, [], ◌∷◌, Option, None, length, get_or, set, map, refl, ap, sym, ◌∙◌, arith, add-one}
 use Rattle.ft_types.specs.declared.module.Module.{Module}
-use Rattle.ft_types.specs.Views.{Owned, Shown, keeping}
+use Rattle.ft_types.specs.Views.{Owned, Shown}
 use Rattle.ft_replay.specs.declared.state.Channel.{Channel}
 use Rattle.ft_replay.specs.declared.state.Control.{Control}
 use Rattle.ft_replay.specs.State.{Lane, Song, Turn, blank_lane, blank_channel}
 use Rattle.ft_replay.specs.Row.{with_channel}
-use Rattle.ft_replay.specs.Stands.{lane_of, turn_of, lanes_of, song_of, Became, Turned, Made}
+use Rattle.ft_replay.specs.Stands.{turn_of, lanes_of, song_of, Turned, Made}
 use Rattle.ft_replay.specs.Tick.{turn_at, with_turn, taking_turn, in_turn}
 
 pub length-lanes_of : (channels : List Channel) (kept : List (Option Owned)) → length (lanes_of channels kept) ≡ length channels
@@ -45,9 +43,9 @@ turned : (rule : ℕ → Turn → Turn) (c : ℕ) (before after : Shown) (contro
 turned rule c before after control control_after channels channel lt le t =
     let made : Turn = rule c (turn_of c before (get_or channels c blank_channel) control) in
     let at : turn_at c (song_of control channels before) ≡ turn_of c before (get_or channels c blank_channel) control =
-        ap (λ (l : Lane). record { lane = l; control = control }) (get_or-lanes_of channels before.kept c blank_channel lt) in
+    ap (λ (l : Lane). record { lane = l; control = control }) (get_or-lanes_of channels before.kept c blank_channel lt) in
     let new : song_of control_after (set channels c channel) after ≡ with_turn c made (song_of control channels before) =
-        rw (t.same, t.lane.same, t.lane.kept) (ap (λ (l : List Lane). record { control = made.control; lanes = l }) (set-lanes_of channels before.kept c made.lane.channel made.lane.owned le)) in
+    rw (t.same, t.lane.same, t.lane.kept) (ap (λ (l : List Lane). record { control = made.control; lanes = l }) (set-lanes_of channels before.kept c made.lane.channel made.lane.owned le)) in
     new ∙ ap (λ (x : Turn). with_turn c (rule c x) (song_of control channels before)) (sym at)
 
 -- the same with what stands behind the view before and after
@@ -78,4 +76,4 @@ pub next_turn : (rule : ℕ → Module → ℕ → Turn → Turn) (i : ℕ) (a b
     → Made (λ version song state. in_turn (rule version song) (i + 1) state) a c x z
 next_turn rule i a b c x y z p q =
     rw (add-one i) (made_then (λ (version : ℕ) (song : Module) (state : Song). in_turn (rule version song) i state)
-        (λ (version : ℕ) (song : Module) (state : Song). taking_turn (rule version song) i state) a b c x y z p q)
+    (λ (version : ℕ) (song : Module) (state : Song). taking_turn (rule version song) i state) a b c x y z p q)

@@ -1,12 +1,12 @@
 -- The parts of a tick make the tick.
-use Rattle.std.proofs.Common.{◌≡◌, ℕ, ◌≤◌, ◌<◌, ◌+◌, ◌*◌, List, length, get_or, map, refl, ap, sym, ◌∙◌, subst, arith}
+use Rattle.std.proofs.Common.{◌≡◌, ℕ, ◌≤◌, ◌<◌, ◌+◌, ◌*◌, List, length, get_or, map, ap, sym, ◌∙◌, subst, arith}
 use Rattle.std.proofs.lemmas.Nat.{mul-le}
 use Rattle.ft_types.specs.declared.module.Module.{Module}
 use Rattle.ft_types.specs.Valid.{IsValid}
 use Rattle.ft_types.specs.Views.{Shown}
 use Rattle.ft_replay.specs.declared.state.Channel.{Channel}
 use Rattle.ft_replay.specs.declared.state.Control.{Control}
-use Rattle.ft_replay.specs.State.{Lane, Song, blank_lane, blank_channel}
+use Rattle.ft_replay.specs.State.{Lane, Song, blank_channel}
 use Rattle.ft_replay.specs.Pitch.{carried}
 use Rattle.ft_replay.specs.Range.{IsChannelInRange, IsLaneInRange, IsPlaying, AreInRange}
 use Rattle.ft_replay.specs.Row.{with_channel}
@@ -51,11 +51,11 @@ tick_of rate before after control at framed next channels done heard_channels pl
     let version = before.version in
     let song = before.song in
     let ends : song_of next heard_channels after ≡ heard_on rate song (song_of at done after) =
-        ap (λ (x : Control). song_of x heard_channels after) (advance ∙ ap advanced frames)
-        ∙ ap (λ (l : List Lane). record { control = advanced (carried rate at); lanes = l })
-          (ap (λ (l : List Channel). lanes_of l after.kept)
-            (hear ∙ ap (λ (m : Module). map (heard rate framed.global m) done) made.song ∙ ap (λ (x : Control). map (heard rate x.global song) done) frames)
-            ∙ lanes_of-map (heard rate at.global song) done after.kept) in
+    ap (λ (x : Control). song_of x heard_channels after) (advance ∙ ap advanced frames)
+    ∙ ap (λ (l : List Lane). record { control = advanced (carried rate at); lanes = l })
+    (ap (λ (l : List Channel). lanes_of l after.kept)
+    (hear ∙ ap (λ (m : Module). map (heard rate framed.global m) done) made.song ∙ ap (λ (x : Control). map (heard rate x.global song) done) frames)
+    ∙ lanes_of-map (heard rate at.global song) done after.kept) in
     record {
       version = made.version;
       song = made.song;

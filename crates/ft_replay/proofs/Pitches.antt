@@ -1,13 +1,13 @@
 -- How high periods, frequencies, steps and gains are.
-use Rattle.std.proofs.Common.{◌≡◌, ℕ, ◌≤◌, ◌<◌, ◌+◌, ◌-◌, ◌*◌, ◌/◌, ◌%◌, ◌^◌, ℤ, pos, negsuc, arith, zero, suc, List, [], ◌∷◌, true, get_or, leb, refl}
-use Rattle.std.specs.Prelude.{◌≤ℤ◌, ◌-ℤ◌, FitsSigned, nat_abs, slice_index}
+use Rattle.std.proofs.Common.{◌≡◌, ℕ, ◌≤◌, ◌<◌, ◌+◌, ◌-◌, ◌*◌, ◌/◌, ◌%◌, ◌^◌, ℤ, arith, zero, suc, List, [], ◌∷◌, true, get_or, leb, refl}
+use Rattle.std.specs.Prelude.{FitsSigned, slice_index}
 use Rattle.std.specs.List.{list_all}
 use Rattle.std.specs.Int.{w8}
 use Rattle.std.proofs.lemmas.Int.{ints}
 use Rattle.std.proofs.lemmas.Bool.{leb-true, and_parts}
 use Rattle.std.proofs.lemmas.Nat.{mul-le, mod_below}
-use Rattle.std.proofs.Math.Nat.{div-le_of_le-mul, div-lt_iff_lt-mul, mod-le, pow-le-pow_right}
-use Rattle.ft_replay.specs.Pitch.{linear_period, linear_frequency, power_at, twelfths, step_of, floor_div}
+use Rattle.std.proofs.Math.Nat.{div-le_of_le-mul, pow-le-pow_right}
+use Rattle.ft_replay.specs.Pitch.{linear_period, linear_frequency, power_at, twelfths, step_of}
 use Rattle.ft_replay.specs.Tick.{gain_of, left_gain, right_gain}
 use Rattle.ft_replay.proofs.Floor.{floor_low, floor_high}
 
@@ -62,7 +62,7 @@ power_bound : (part : ℕ) → power_at part ≤ 131072
 unfolding power_at
 power_bound part =
     between_ends (slice_index twelfths (part / 64)) (slice_index twelfths (part / 64 + 1)) 131072 (part % 64)
-      (all_at twelfths 131072 (part / 64) refl) (all_at twelfths 131072 (part / 64 + 1) refl) (mod_below part 64 (omega arith))
+    (all_at twelfths 131072 (part / 64) refl) (all_at twelfths 131072 (part / 64 + 1) refl) (mod_below part 64 (omega arith))
 
 frequency_bound : (period : ℕ) → 1 ≤ period → linear_frequency period < 2 ^ 36
 unfolding linear_frequency

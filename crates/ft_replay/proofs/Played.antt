@@ -1,14 +1,12 @@
 -- Ticks one after the other, until as many frames are played as were asked for.
-use Rattle.std.proofs.Common.{◌≡◌, ℕ, zero, suc, ◌+◌, ◌-◌, ◌*◌, ◌≤◌, ◌<◌, ℤ, pos, List, [], ◌∷◌, ◌++◌, length, get_or, min, take, refl, ap, sym, subst, ◌∙◌, arith, add-one, inl, inr}
+use Rattle.std.proofs.Common.{◌≡◌, ℕ, zero, suc, ◌+◌, ◌-◌, ◌*◌, ◌≤◌, ◌<◌, ℤ, List, [], ◌∷◌, ◌++◌, length, min, take, refl, ap, sym, subst, ◌∙◌, arith, add-one}
 use Rattle.std.specs.Prelude.{All, sum_by, flat_map, replicate}
-use Rattle.std.proofs.lemmas.Bool.{cases_lt}
 use Rattle.std.proofs.lemmas.Grind.{flat_map-append}
 use Rattle.std.proofs.lemmas.List.{append-nil, length-append}
 use Rattle.std.proofs.lemmas.List.Sums.{sum_by-cons, sum_by_push}
 use Rattle.std.proofs.Math.Seq.{take-append-add}
 use Rattle.ft_types.specs.declared.module.Module.{Module}
 use Rattle.ft_types.specs.Valid.{IsValid}
-use Rattle.ft_replay.specs.declared.state.Place.{Place}
 use Rattle.ft_replay.specs.State.{Lane, Song, first_song}
 use Rattle.ft_replay.specs.Range.{IsInRange}
 use Rattle.ft_replay.specs.Replay.{ticks_from, cut_places, replay, Renders}
@@ -33,8 +31,8 @@ ticks_more song rate zero state = refl
 ticks_more song rate (suc ticks) state =
     let first = seq_tick 0 song rate state in
     ap (λ (l : List Ticked). first ∷ l)
-      (ticks_more song rate ticks first.state
-        ∙ ap (λ (s : Song). ticks_from (λ (version : ℕ). song) (replicate ticks 0) rate first.state ++ seq_tick 0 song rate s ∷ []) (shifted song rate ticks state))
+    (ticks_more song rate ticks first.state
+    ∙ ap (λ (s : Song). ticks_from (λ (version : ℕ). song) (replicate ticks 0) rate first.state ++ seq_tick 0 song rate s ∷ []) (shifted song rate ticks state))
 
 -- before the first tick nothing is played
 pub played_none : (song : Module) (rate : ℕ) → HasPlayed song rate 0 (first_song song.channels) 0 []
@@ -51,14 +49,14 @@ played_more song rate ticks state frames sound p =
     rw (add-one ticks) (record {
       after = ap (λ (t : Ticked). t.state) here;
       whole = ap (λ (n : ℕ). n + (seq_tick 0 song rate state).place.frames) p.whole
-        ∙ ap (λ (t : Ticked). sum_by (λ ticked. ticked.place.frames) before + t.place.frames) here
-        ∙ sym (sum_by_push (λ (ticked : Ticked). ticked.place.frames) before last)
-        ∙ ap (sum_by (λ ticked. ticked.place.frames)) (sym more);
+          ∙ ap (λ (t : Ticked). sum_by (λ ticked. ticked.place.frames) before + t.place.frames) here
+          ∙ sym (sum_by_push (λ (ticked : Ticked). ticked.place.frames) before last)
+          ∙ ap (sum_by (λ ticked. ticked.place.frames)) (sym more);
       joined = ap (λ (l : List ℤ). l ++ (seq_tick 0 song rate state).sound) p.joined
-        ∙ ap (λ (t : Ticked). flat_map (λ ticked. ticked.sound) before ++ t.sound) here
-        ∙ ap (λ (l : List ℤ). flat_map (λ ticked. ticked.sound) before ++ l) (sym (append-nil last.sound))
-        ∙ sym (flat_map-append (λ (ticked : Ticked). ticked.sound) before (last ∷ []))
-        ∙ ap (flat_map (λ ticked. ticked.sound)) (sym more);
+          ∙ ap (λ (t : Ticked). flat_map (λ ticked. ticked.sound) before ++ t.sound) here
+          ∙ ap (λ (l : List ℤ). flat_map (λ ticked. ticked.sound) before ++ l) (sym (append-nil last.sound))
+          ∙ sym (flat_map-append (λ (ticked : Ticked). ticked.sound) before (last ∷ []))
+          ∙ ap (flat_map (λ ticked. ticked.sound)) (sym more);
     })
 
 state_in_range : (song : Module) (rate ticks : ℕ) → IsValid song → 8000 ≤ rate → rate ≤ 48000 → IsInRange song.channels (state_from song rate ticks (first_song song.channels))
@@ -87,7 +85,7 @@ some_from song rate channels zero state valid fast slow p = λ i d lt. absurd (o
 some_from song rate channels (suc ticks) state valid fast slow p =
     let ticked = tick_in_range 0 song rate channels state valid fast slow p in
     some_then (seq_tick 0 song rate state) (ticks_from (λ (version : ℕ). song) (replicate ticks 0) rate (seq_tick 0 song rate state).state) ticked.some_frames
-      (some_from song rate channels ticks (seq_tick 0 song rate state).state valid fast slow ticked.state)
+    (some_from song rate channels ticks (seq_tick 0 song rate state).state valid fast slow ticked.state)
 
 -- all cut ticks together have as many frames as were asked for, or all that there are
 cut_total : (count : ℕ) (ticks : List Ticked)
@@ -118,7 +116,7 @@ played_renders song rate ticks state frames sound count valid fast slow p less r
     let more : first_ticks song rate (suc ticks) ≡ before ++ last ∷ [] = ticks_more song rate ticks (first_song song.channels) in
     let here : seq_tick 0 song rate state ≡ last = ap (seq_tick 0 song rate) p.after in
     let next = subst (λ (n : ℕ). HasPlayed song rate n (seq_tick 0 song rate state).state (frames + (seq_tick 0 song rate state).place.frames) (sound ++ (seq_tick 0 song rate state).sound))
-          (add-one ticks) (played_more song rate ticks state frames sound p) in
+    (add-one ticks) (played_more song rate ticks state frames sound p) in
     let whole = next.whole in
     let fits = p.whole in
     let range = state_in_range song rate ticks valid fast slow in
@@ -149,8 +147,13 @@ length-joined song rate zero state = refl
 length-joined song rate (suc ticks) state =
     let first = seq_tick 0 song rate state in
     let later = ticks_from (λ (version : ℕ). song) (replicate ticks 0) rate first.state in
-    omega (arith, length-append first.sound (flat_map (λ (ticked : Ticked). ticked.sound) later), length-sound 0 song rate state, length-joined song rate ticks first.state,
-      sum_by-cons (λ (ticked : Ticked). ticked.place.frames) first later)
+    omega (
+      arith,
+      length-append first.sound (flat_map (λ (ticked : Ticked). ticked.sound) later),
+      length-sound 0 song rate state,
+      length-joined song rate ticks first.state,
+      sum_by-cons (λ (ticked : Ticked). ticked.place.frames) first later,
+    )
 
 -- what was played has two numbers for each frame
 pub length-played : (song : Module) (rate ticks : ℕ) (state : Song) (frames : ℕ) (sound : List ℤ) → HasPlayed song rate ticks state frames sound → length sound ≡ 2 * frames

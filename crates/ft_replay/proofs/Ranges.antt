@@ -1,6 +1,6 @@
 -- What a tick does to one channel keeps it in range.
-use Rattle.std.proofs.Common.{◌≡◌, ◌≢◌, ℕ, zero, suc, ◌≤◌, ◌<◌, ◌+◌, ◌-◌, ◌*◌, ◌/◌, ◌^◌, ◌&&◌, ◌||◌, Option, None, Some, Bool, true, false, not, List, length, get_or, set, map, eqb, ltb, leb, refl, ap, sym, ◌∙◌, subst, arith, min, max, ℤ, pos, negsuc, inl, inr}
-use Rattle.std.specs.Prelude.{if◌then◌else◌, nat_abs, nat_lt, FitsSigned, ◌==◌}
+use Rattle.std.proofs.Common.{◌≡◌, ℕ, ◌≤◌, ◌<◌, ◌+◌, ◌-◌, ◌*◌, ◌/◌, ◌^◌, ◌&&◌, ◌||◌, Option, None, Some, Bool, true, false, not, ltb, leb, refl, ap, sym, ◌∙◌, subst, arith, ℤ, pos, negsuc}
+use Rattle.std.specs.Prelude.{if◌then◌else◌, nat_abs, nat_lt, ◌==◌}
 use Rattle.std.proofs.lemmas.Bool.{cond_both, and_parts, or_parts, leb-true, ltb-true}
 use Rattle.ft_types.specs.declared.module.Module.{Module}
 use Rattle.ft_types.specs.declared.instrument.Instrument.{Instrument}
@@ -11,9 +11,9 @@ use Rattle.ft_types.specs.Views.{Owned, begun, head_of, instrument_at}
 use Rattle.ft_replay.specs.declared.state.Channel.{Channel}
 use Rattle.ft_replay.specs.State.{Lane}
 use Rattle.ft_replay.specs.Pitch.{played_note, is_played, linear_period}
-use Rattle.ft_replay.specs.Range.{IsHeadInRange, IsVoiceInRange, IsChannelInRange, IsLaneInRange, Stands}
-use Rattle.ft_replay.specs.Row.{struck, volume_started, set_anew, sounded, with_channel, named, renewed, levelled_by, silenced, begins, start_frame, is_level, is_note, is_instrument, has_begun, new_voice, with_voice}
-use Rattle.ft_replay.specs.Tick.{cleared, heard, heard_by, heard_voice, heard_gain, heard_period, vibrated, gain_of}
+use Rattle.ft_replay.specs.Range.{IsVoiceInRange, IsChannelInRange, IsLaneInRange, Stands}
+use Rattle.ft_replay.specs.Row.{struck, volume_started, set_anew, sounded, with_channel, named, renewed, levelled_by, silenced, begins, is_level, is_note, is_instrument, has_begun, new_voice, with_voice}
+use Rattle.ft_replay.specs.Tick.{cleared, heard, heard_by, heard_voice, heard_gain, heard_period, vibrated}
 use Rattle.ft_replay.specs.Sound.{moved, moved_by, moved_voice, is_ended}
 use Rattle.ft_replay.proofs.Heads.{HasHead, begun_head}
 use Rattle.ft_replay.proofs.Pitches.{low_period, full, left_full, right_full, step_bound}
@@ -73,20 +73,20 @@ begins_in_range song c cell None lane head p = silenced_in_range c lane p
 begins_in_range song c cell (Some owned) lane head p =
     let its = head_of owned.sample in
     cond_both (is_played (played_note cell.note its.relative) && nat_lt 0 its.frames) _ _ (λ (l : Lane). IsChannelInRange c l.channel)
-      (λ is.
-        let played = (and_parts (is_played (played_note cell.note its.relative)) (nat_lt 0 its.frames) is).0 in
-        let some = head.some_frames in
-        with_voice_in_range c (new_voice c 0 its) (linear_period (nat_abs (played_note cell.note its.relative)) its.finetune) lane.channel
-          (record { head = head; place = omega arith; step = omega arith; left = omega arith; right = omega arith }) refl
-          (low_period (nat_abs (played_note cell.note its.relative)) its.finetune (few (played_note cell.note its.relative) played) head.finetune) p)
-      (λ is. silenced_in_range c lane p)
+    (λ is.
+    let played = (and_parts (is_played (played_note cell.note its.relative)) (nat_lt 0 its.frames) is).0 in
+    let some = head.some_frames in
+    with_voice_in_range c (new_voice c 0 its) (linear_period (nat_abs (played_note cell.note its.relative)) its.finetune) lane.channel
+    (record { head = head; place = omega arith; step = omega arith; left = omega arith; right = omega arith }) refl
+    (low_period (nat_abs (played_note cell.note its.relative)) its.finetune (few (played_note cell.note its.relative) played) head.finetune) p)
+    (λ is. silenced_in_range c lane p)
 
 sounded_in_range : (version : ℕ) (song : Module) (c : ℕ) (cell : Cell) (lane : Lane) → IsValid song → IsChannelInRange c lane.channel
     → IsChannelInRange c (sounded version song c cell lane).channel
 unfolding sounded
 sounded_in_range version song c cell lane valid p =
     either_lane c (is_note cell) _ _
-      (begins_in_range song c cell (begun version song lane.channel.instrument (cell.note - 1)) lane (begun_head version song lane.channel.instrument (cell.note - 1) valid) p) p
+    (begins_in_range song c cell (begun version song lane.channel.instrument (cell.note - 1)) lane (begun_head version song lane.channel.instrument (cell.note - 1) valid) p) p
 
 levelled_in_range : (c : ℕ) (voice : Option Voice) (channel : Channel) → ((x : Voice) → voice ≡ Some x → IsVoiceInRange x) → IsChannelInRange c channel
     → IsChannelInRange c (levelled_by voice channel)
@@ -105,10 +105,10 @@ volume_in_range : (c : ℕ) (cell : Cell) (channel : Channel) → IsChannelInRan
 unfolding volume_started
 volume_in_range c cell channel p =
     cond_both (is_level cell.volume) _ channel (IsChannelInRange c)
-      (λ is.
-        let high = leb-true cell.volume 80 (and_parts (leb 16 cell.volume) (leb cell.volume 80) is).1 in
-        record { vol = omega arith; pan = p.pan; period = p.period; fade = p.fade; voice = p.voice; home = p.home })
-      (λ is. p)
+    (λ is.
+    let high = leb-true cell.volume 80 (and_parts (leb 16 cell.volume) (leb cell.volume 80) is).1 in
+    record { vol = omega arith; pan = p.pan; period = p.period; fade = p.fade; voice = p.voice; home = p.home })
+    (λ is. p)
 
 pub struck_in_range : (version : ℕ) (song : Module) (c : ℕ) (cell : Cell) (lane : Lane) → IsValid song → IsChannelInRange c lane.channel
     → IsChannelInRange c (struck version song c cell lane).channel
@@ -173,15 +173,15 @@ moved_by_in_range : (frames c : ℕ) (voice : Option Voice) (lane : Lane) → la
 moved_by_in_range frames c None lane e p = p
 moved_by_in_range frames c (Some voice) lane e p =
     cond_both (is_ended frames voice) _ _ (λ (l : Lane). IsChannelInRange c l.channel)
-      (λ is. silenced_in_range c lane p)
-      (λ is. record {
-        vol = p.vol;
-        pan = p.pan;
-        period = p.period;
-        fade = p.fade;
-        voice = λ x here. let same : moved_voice frames voice ≡ x = cc in subst IsVoiceInRange same (moved_voice_in_range frames voice (p.voice voice e) is);
-        home = λ x here. let same : moved_voice frames voice ≡ x = cc in subst (λ (v : Voice). v.channel ≡ c) same (p.home voice e);
-      })
+    (λ is. silenced_in_range c lane p)
+    (λ is. record {
+      vol = p.vol;
+      pan = p.pan;
+      period = p.period;
+      fade = p.fade;
+      voice = λ x here. let same : moved_voice frames voice ≡ x = cc in subst IsVoiceInRange same (moved_voice_in_range frames voice (p.voice voice e) is);
+      home = λ x here. let same : moved_voice frames voice ≡ x = cc in subst (λ (v : Voice). v.channel ≡ c) same (p.home voice e);
+    })
 
 pub moved_in_range : (frames c : ℕ) (lane : Lane) → IsChannelInRange c lane.channel → IsChannelInRange c (moved frames lane).channel
 unfolding moved
@@ -215,8 +215,8 @@ begins_stands song c cell None lane = silenced_stands lane
 begins_stands song c cell (Some owned) lane =
     let its = head_of owned.sample in
     cond_both (is_played (played_note cell.note its.relative) && nat_lt 0 its.frames) _ _ Stands
-      (λ is. λ voice here. let same : new_voice c 0 its ≡ voice = cc in ap (λ (v : Voice). Some v.head) same)
-      (λ is. silenced_stands lane)
+    (λ is. λ voice here. let same : new_voice c 0 its ≡ voice = cc in ap (λ (v : Voice). Some v.head) same)
+    (λ is. silenced_stands lane)
 
 sounded_stands : (version : ℕ) (song : Module) (c : ℕ) (cell : Cell) (lane : Lane) → Stands lane → Stands (sounded version song c cell lane)
 unfolding sounded
@@ -233,8 +233,8 @@ struck_stands version song c cell lane p =
     let named_lane = same_stands (named cell) lane (voice_kept lane.channel.voice (cell.instrument == 0) _ _ refl refl) p in
     let lane_sounded = sounded version song c cell (with_channel (named cell) lane) in
     same_stands (λ (channel : Channel). volume_started cell (set_anew cell channel)) lane_sounded
-      (volume_voice cell (set_anew cell lane_sounded.channel) ∙ anew_voice cell lane_sounded.channel)
-      (sounded_stands version song c cell (with_channel (named cell) lane) named_lane)
+    (volume_voice cell (set_anew cell lane_sounded.channel) ∙ anew_voice cell lane_sounded.channel)
+    (sounded_stands version song c cell (with_channel (named cell) lane) named_lane)
 
 vibrated_voice : (instrument : Option Instrument) (channel : Channel) → (vibrated instrument channel).voice ≡ channel.voice
 vibrated_voice None channel = refl
@@ -248,7 +248,7 @@ heard_by_stands : (rate global : ℕ) (song : Module) (by : Option Voice) (lane 
 heard_by_stands rate global song None lane e p = p
 heard_by_stands rate global song (Some by) lane e p = λ voice is.
     let now : Some (heard_voice rate global lane.channel by) ≡ Some voice =
-        sym (vibrated_voice (instrument_at song lane.channel.instrument) (record lane.channel { voice = Some (heard_voice rate global lane.channel by) })) ∙ is in
+    sym (vibrated_voice (instrument_at song lane.channel.instrument) (record lane.channel { voice = Some (heard_voice rate global lane.channel by) })) ∙ is in
     let same : heard_voice rate global lane.channel by ≡ voice = cc in
     p by e ∙ ap Some (sym (heard_head rate global lane.channel by) ∙ ap (λ (v : Voice). v.head) same)
 
@@ -260,7 +260,7 @@ moved_by_stands : (frames : ℕ) (by : Option Voice) (lane : Lane) → lane.chan
 moved_by_stands frames None lane e p = p
 moved_by_stands frames (Some by) lane e p =
     cond_both (is_ended frames by) _ _ Stands (λ is. silenced_stands lane)
-      (λ is. λ voice here. let same : moved_voice frames by ≡ voice = cc in p by e ∙ ap (λ (v : Voice). Some v.head) same)
+    (λ is. λ voice here. let same : moved_voice frames by ≡ voice = cc in p by e ∙ ap (λ (v : Voice). Some v.head) same)
 
 -- ---- the same of lanes
 

@@ -1,5 +1,5 @@
 -- The rows' rules of a tick, over channels with what is kept for each.
-use Rattle.std.proofs.Common.{◌≡◌, ◌≢◌, ℕ, zero, suc, ◌%◌, List, Bool, true, false, length, get_or, set, map, eqb, refl, ap, sym, ◌∙◌}
+use Rattle.std.proofs.Common.{◌≡◌, ◌≢◌, ℕ, zero, suc, ◌%◌, List, Bool, true, false, length, map, eqb, refl, ap, sym, ◌∙◌}
 use Rattle.std.specs.Prelude.{if◌then◌else◌}
 use Rattle.std.proofs.lemmas.Bool.{ne_eqb}
 use Rattle.std.proofs.lemmas.List.{set-get_or, length-map}
@@ -27,8 +27,8 @@ unfolding rows_done
 rows_first version song control channels shown e =
     let is : eqb control.tick 0 ≡ true = ap (λ (n : ℕ). eqb n 0) e in
     rw (is, length-lanes_of channels shown.kept)
-      (ap (λ (n : ℕ). in_turn (starts version song) n (song_of control (map cleared channels) shown)) (length-map channels cleared)
-        ∙ ap (in_turn (starts version song) (length channels)) (cleared_song control channels shown))
+    (ap (λ (n : ℕ). in_turn (starts version song) n (song_of control (map cleared channels) shown)) (length-map channels cleared)
+    ∙ ap (in_turn (starts version song) (length channels)) (cleared_song control channels shown))
 
 -- the later rules of what plain modules have do nothing
 later_nothing : (version : ℕ) (song : Module) (channels : ℕ) (state : Song) → in_turn (goes_on version song) channels state ≡ state
@@ -50,5 +50,5 @@ rows_later version song control channels shown ne =
     let is : eqb control.tick 0 ≡ false = ne_eqb control.tick 0 ne in
     let fresh = fresh_of (song_of control channels shown) in
     rw is (cleared_song control channels shown
-      ∙ either (eqb (control.tick % control.tempo) 0) fresh (in_turn (goes_on version song) (length (lanes_of channels shown.kept)) fresh) fresh refl
-          (sym (later_nothing version song (length (lanes_of channels shown.kept)) fresh)))
+    ∙ either (eqb (control.tick % control.tempo) 0) fresh (in_turn (goes_on version song) (length (lanes_of channels shown.kept)) fresh) fresh refl
+    (sym (later_nothing version song (length (lanes_of channels shown.kept)) fresh)))

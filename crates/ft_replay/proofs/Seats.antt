@@ -1,8 +1,7 @@
 -- Voices that leave their channels and come back.
-use Rattle.std.proofs.Common.{◌≡◌, ◌≢◌, ℕ, zero, suc, ◌+◌, ◌≤◌, ◌<◌, List, [], ◌∷◌, ◌++◌, Option, None, Some, length, get_or, set, map, take, drop, refl, ap, sym, subst, ◌∙◌, arith, append_assoc, add-one, option_to_list, drop-cons, inl, inr}
+use Rattle.std.proofs.Common.{◌≡◌, ℕ, zero, suc, ◌+◌, ◌≤◌, ◌<◌, List, [], ◌∷◌, ◌++◌, Option, None, Some, length, get_or, set, map, take, drop, refl, ap, sym, subst, ◌∙◌, arith, append_assoc, add-one, option_to_list, drop-cons}
 use Rattle.std.specs.Prelude.{All}
-use Rattle.std.proofs.lemmas.Bool.{cases_eq}
-use Rattle.std.proofs.lemmas.List.{append-nil, drop-set-lt, length-append, length-set, length-map, get_or-set_same, get_or-set_other}
+use Rattle.std.proofs.lemmas.List.{drop-set-lt, length-append, length-map}
 use Rattle.std.proofs.Math.Seq.{take-append_seam}
 use Rattle.ft_types.specs.declared.voice.Voice.{Voice}
 use Rattle.ft_replay.specs.declared.state.Channel.{Channel}
@@ -36,10 +35,10 @@ by_voice front channels channel (Some v) e h so_far =
     let rest = map emptied channels in
     let all : List Channel = front ++ emptied channel ∷ rest in
     let sits : seat_of v all ≡ front ++ channel ∷ rest =
-        ap (λ (n : ℕ). set all n (record (get_or all n blank_channel) { voice = Some v })) (h v refl)
-        ∙ ap (λ (x : Channel). set all (length front) (record x { voice = Some v })) (get_seam front rest (emptied channel) blank_channel)
-        ∙ set_seam front rest (emptied channel) (record channel { voice = Some v })
-        ∙ ap (λ (x : Option Voice). front ++ (record channel { voice = x }) ∷ rest) (sym e) in
+    ap (λ (n : ℕ). set all n (record (get_or all n blank_channel) { voice = Some v })) (h v refl)
+    ∙ ap (λ (x : Channel). set all (length front) (record x { voice = Some v })) (get_seam front rest (emptied channel) blank_channel)
+    ∙ set_seam front rest (emptied channel) (record channel { voice = Some v })
+    ∙ ap (λ (x : Option Voice). front ++ (record channel { voice = x }) ∷ rest) (sym e) in
     ap (λ (l : List Channel). seated l (gathered channels)) (sits ∙ sym (append_assoc front (channel ∷ []) rest)) ∙ so_far ∙ append_assoc front (channel ∷ []) channels
 
 back_from : (front channels : List Channel) → HomeFrom (length front) channels → seated (front ++ map emptied channels) (gathered channels) ≡ front ++ channels
@@ -53,10 +52,11 @@ home_from : (n : ℕ) (channels : List Channel) → ((c : ℕ) → c < length ch
 unfolding HomeFrom
 home_from n [] h = tt
 home_from n (channel ∷ channels) h =
-    let none : n + 0 ≡ n = omega arith in
-    (subst (λ (k : ℕ). IsHome k channel.voice) none (h 0 (omega arith)),
-     home_from (n + 1) channels (λ c lt. let k : n + (c + 1) ≡ n + 1 + c = omega arith in
-       subst (λ (j : ℕ). IsHome j (get_or channels c blank_channel).voice) k (subst (λ (j : ℕ). IsHome (n + j) (get_or channels c blank_channel).voice) (sym (add-one c)) (h (suc c) (omega arith)))))
+    let none : n + 0 ≡ n = omega arith in (
+      subst (λ (k : ℕ). IsHome k channel.voice) none (h 0 (omega arith)),
+      home_from (n + 1) channels (λ c lt. let k : n + (c + 1) ≡ n + 1 + c = omega arith in
+          subst (λ (j : ℕ). IsHome j (get_or channels c blank_channel).voice) k (subst (λ (j : ℕ). IsHome (n + j) (get_or channels c blank_channel).voice) (sym (add-one c)) (h (suc c) (omega arith)))),
+    )
 
 all_home : (channels : List Channel) → AllHome channels → HomeFrom 0 channels
 unfolding IsHome

@@ -1,10 +1,9 @@
 -- The sound of a tick, and a tick from its parts.
-use Rattle.std.proofs.Common.{◌≡◌, ℕ, zero, suc, ◌+◌, ◌*◌, ◌≤◌, ◌<◌, ℤ, pos, List, [], ◌∷◌, ◌++◌, length, get_or, map, take, drop, drop-cons, add-one, refl, ap, sym, ◌∙◌, subst, arith}
-use Rattle.std.proofs.Math.Seq.{take-suc}
+use Rattle.std.proofs.Common.{◌≡◌, ℕ, zero, suc, ◌+◌, ◌*◌, ◌≤◌, ◌<◌, ℤ, pos, List, [], ◌∷◌, ◌++◌, length, get_or, map, take, add-one, refl, ap, sym, ◌∙◌, arith}
 use Rattle.ft_types.specs.declared.module.Module.{Module}
 use Rattle.ft_replay.specs.State.{Lane, Song}
 use Rattle.ft_replay.specs.Sound.{sound_of, frame_at, lanes_sum, left_of, right_of, clipped, moved}
-use Rattle.ft_replay.specs.Tick.{Made, Ticked, tick_made, seq_tick}
+use Rattle.ft_replay.specs.Tick.{tick_made, seq_tick}
 
 -- at each of the first frames both sides are the clipped sums
 abbrev pub Sounds : List Lane → ℕ → List ℤ → Type 0

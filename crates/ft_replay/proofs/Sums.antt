@@ -1,5 +1,5 @@
 -- Lanes one by one: what they add, and how they are moved.
-use Rattle.std.proofs.Common.{◌≡◌, ℕ, zero, suc, ◌+◌, ◌*◌, ◌/◌, ◌^◌, ◌≤◌, ◌<◌, ℤ, pos, ◌+ℤ◌, Option, None, Some, List, [], ◌∷◌, ◌++◌, length, get_or, set, map, take, drop, drop-cons, add-one, refl, ap, sym, ◌∙◌, subst, arith}
+use Rattle.std.proofs.Common.{◌≡◌, ℕ, zero, suc, ◌+◌, ◌*◌, ◌^◌, ◌≤◌, ◌<◌, ℤ, pos, ◌+ℤ◌, Option, None, List, [], ◌∷◌, ◌++◌, length, get_or, set, map, take, drop, drop-cons, add-one, refl, ap, ◌∙◌, subst, arith}
 use Rattle.std.proofs.lemmas.Int.{ints}
 use Rattle.std.proofs.lemmas.List.{drop_all}
 use Rattle.std.proofs.lemmas.Nat.{mul-le}
@@ -25,7 +25,7 @@ next_sum side channels shown c lt =
     let lanes = lanes_of channels shown.kept in
     let inside : c < length lanes = omega (arith, length-lanes_of channels shown.kept) in
     rw (drop-cons lanes c blank_lane inside, add-one c)
-      (ap (λ (lane : Lane). lane_adds side lane.owned lane.channel.voice +ℤ lanes_sum side (drop (suc c) lanes)) (get_or-lanes_of channels shown.kept c blank_channel lt))
+    (ap (λ (lane : Lane). lane_adds side lane.owned lane.channel.voice +ℤ lanes_sum side (drop (suc c) lanes)) (get_or-lanes_of channels shown.kept c blank_channel lt))
 
 -- past the last lane nothing is added
 pub no_sum : (side : Option Owned → Voice → ℤ) (channels : List Channel) (shown : Shown) (c : ℕ) → length channels ≤ c → lanes_sum side (drop c (lanes_of channels shown.kept)) ≡ pos 0

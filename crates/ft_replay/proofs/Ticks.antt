@@ -1,21 +1,16 @@
 -- A tick is defined for every valid song and every state in range, and leaves such a state.
-use Rattle.std.proofs.Common.{◌≡◌, ◌≢◌, ℕ, zero, suc, ◌≤◌, ◌<◌, ◌+◌, ◌-◌, ◌*◌, ◌/◌, ◌%◌, Bool, true, false, List, length, get_or, set, map, eqb, ltb, refl, ap, sym, ◌∙◌, subst, arith, inl, inr}
-use Rattle.std.specs.Prelude.{if◌then◌else◌, All}
-use Rattle.std.proofs.lemmas.Bool.{cond_both, eqb-true, eqb-false, ltb-true, ltb-false, cases_eq}
-use Rattle.std.proofs.lemmas.List.{get_or-map, length-map, length-set, get_or-set_same, get_or-set_other, get_or-replicate, length-replicate}
-use Rattle.std.proofs.lemmas.Nat.{mod_below}
-use Rattle.std.proofs.Math.Nat.{div-le_of_le-mul}
+use Rattle.std.proofs.Common.{◌≡◌, ◌≢◌, ℕ, zero, suc, ◌≤◌, ◌<◌, ◌+◌, ◌*◌, ◌%◌, Bool, true, false, List, length, get_or, set, map, eqb, ltb, refl, sym, ◌∙◌, subst, arith, inl, inr}
+use Rattle.std.specs.Prelude.{if◌then◌else◌}
+use Rattle.std.proofs.lemmas.Bool.{cond_both, eqb-true, eqb-false, ltb-true, cases_eq}
+use Rattle.std.proofs.lemmas.List.{get_or-map, length-map, length-set, get_or-set_same, get_or-set_other}
 use Rattle.ft_types.specs.declared.module.Module.{Module}
 use Rattle.ft_types.specs.Valid.{IsValid}
 use Rattle.ft_types.specs.Views.{rows_at, order_at, cell_at}
-use Rattle.ft_replay.specs.declared.state.Channel.{Channel}
 use Rattle.ft_replay.specs.declared.state.Control.{Control}
 use Rattle.ft_replay.specs.State.{Lane, Song, Turn, blank_lane}
-use Rattle.ft_replay.specs.Pitch.{tick_frames, tick_room, carried}
-use Rattle.ft_replay.specs.Range.{IsLaneInRange, IsControlInRange, IsPlaying, AreInRange, IsInRange}
+use Rattle.ft_replay.specs.Range.{IsLaneInRange, IsControlInRange, IsPlaying, AreInRange}
 use Rattle.ft_replay.specs.Row.{row_started, row_ticked, with_channel}
-use Rattle.ft_replay.specs.Tick.{Ticked, in_turn, turn_at, starts, goes_on, cleared, rows_done, heard, placed, opened, brought_back, turned_over, next_order, tick_made, seq_tick, advanced}
-use Rattle.ft_replay.specs.Sound.{moved}
+use Rattle.ft_replay.specs.Tick.{in_turn, turn_at, starts, goes_on, cleared, rows_done, placed, opened, brought_back, turned_over, next_order}
 use Rattle.ft_replay.proofs.Heads.{rows_at_bound}
 use Rattle.ft_replay.proofs.Ranges.{struck_lane, cleared_lane}
 
@@ -28,8 +23,8 @@ next_bound : (song : Module) (position : ℕ) → IsValid song → next_order so
 next_bound song position valid =
     let b = valid.few_orders in
     cond_both (ltb (position + 1) (length song.orders)) (position + 1) song.restart (λ n. n ≤ 255)
-      (λ is. let lt = ltb-true (position + 1) (length song.orders) is in omega arith)
-      (λ is. restart_bound song valid)
+    (λ is. let lt = ltb-true (position + 1) (length song.orders) is in omega arith)
+    (λ is. restart_bound song valid)
 
 -- the first place of a row, once tempo and BPM are those of the song
 pub record IsStarting (control : Control) : Type 0 where
@@ -46,28 +41,28 @@ pub record IsStarting (control : Control) : Type 0 where
 opened_in_range : (song : Module) (control : Control) → IsValid song → IsControlInRange control → control.tick ≡ 0 → IsStarting (opened song control)
 opened_in_range song control valid p start =
     cond_both (eqb control.tempo 0) _ control IsStarting
-      (λ is. record {
-        delay = p.delay;
-        global = p.global;
-        some_tempo = valid.some_tempo;
-        tempo = valid.low_tempo;
-        tick = start;
-        slow = valid.some_bpm;
-        fast = valid.low_bpm;
-        last = p.last;
-        carry = p.carry;
-      })
-      (λ is. let ne = eqb-false control.tempo 0 is in record {
-        delay = p.delay;
-        global = p.global;
-        some_tempo = omega arith;
-        tempo = p.tempo;
-        tick = start;
-        slow = p.slow (omega arith);
-        fast = p.fast;
-        last = p.last;
-        carry = p.carry;
-      })
+    (λ is. record {
+      delay = p.delay;
+      global = p.global;
+      some_tempo = valid.some_tempo;
+      tempo = valid.low_tempo;
+      tick = start;
+      slow = valid.some_bpm;
+      fast = valid.low_bpm;
+      last = p.last;
+      carry = p.carry;
+    })
+    (λ is. let ne = eqb-false control.tempo 0 is in record {
+      delay = p.delay;
+      global = p.global;
+      some_tempo = omega arith;
+      tempo = p.tempo;
+      tick = start;
+      slow = p.slow (omega arith);
+      fast = p.fast;
+      last = p.last;
+      carry = p.carry;
+    })
 
 -- the order position is one of the song's
 pub record IsInSong (control : Control) : Type 0 where
@@ -78,11 +73,11 @@ back_in_range : (song : Module) (control : Control) → IsValid song → IsStart
 back_in_range song control valid p =
     let few = valid.few_orders in
     cond_both (ltb control.pos (length song.orders)) control _ IsInSong
-      (λ is. let lt = ltb-true control.pos (length song.orders) is in record { starts = p; pos = omega arith })
-      (λ is. record {
-        starts = record { delay = p.delay; global = p.global; some_tempo = p.some_tempo; tempo = p.tempo; tick = p.tick; slow = p.slow; fast = p.fast; last = p.last; carry = p.carry };
-        pos = restart_bound song valid;
-      })
+    (λ is. let lt = ltb-true control.pos (length song.orders) is in record { starts = p; pos = omega arith })
+    (λ is. record {
+      starts = record { delay = p.delay; global = p.global; some_tempo = p.some_tempo; tempo = p.tempo; tick = p.tick; slow = p.slow; fast = p.fast; last = p.last; carry = p.carry };
+      pos = restart_bound song valid;
+    })
 
 some_ticks : (tempo delay : ℕ) → 1 ≤ tempo → 0 < tempo * (1 + delay)
 some_ticks tempo delay t = grind arith
@@ -92,50 +87,51 @@ over_in_range song control valid p =
     let s = p.starts in
     let first : control.tick < control.tempo * (1 + control.delay) = let some = some_ticks control.tempo control.delay s.some_tempo in let zeroth = s.tick in omega arith in
     cond_both (ltb control.row (rows_at song (order_at song control.pos))) control _ IsPlaying
-      (λ is.
-        let lt = ltb-true control.row (rows_at song (order_at song control.pos)) is in
-        let few = (rows_at_bound song (order_at song control.pos) valid).1 in
-        record { pos = p.pos; row = omega arith; delay = s.delay; global = s.global; some_tempo = s.some_tempo; tempo = s.tempo; tick = first; slow = s.slow; fast = s.fast; last = s.last; carry = s.carry })
-      (λ is. record {
-        pos = next_bound song control.pos valid;
-        row = omega arith;
-        delay = s.delay;
-        global = s.global;
-        some_tempo = s.some_tempo;
-        tempo = s.tempo;
-        tick = first;
-        slow = s.slow;
-        fast = s.fast;
-        last = s.last;
-        carry = s.carry;
-      })
+    (λ is.
+    let lt = ltb-true control.row (rows_at song (order_at song control.pos)) is in
+    let few = (rows_at_bound song (order_at song control.pos) valid).1 in
+    record { pos = p.pos; row = omega arith; delay = s.delay; global = s.global; some_tempo = s.some_tempo; tempo = s.tempo; tick = first; slow = s.slow; fast = s.fast; last = s.last; carry = s.carry })
+    (λ is. record {
+      pos = next_bound song control.pos valid;
+      row = omega arith;
+      delay = s.delay;
+      global = s.global;
+      some_tempo = s.some_tempo;
+      tempo = s.tempo;
+      tick = first;
+      slow = s.slow;
+      fast = s.fast;
+      last = s.last;
+      carry = s.carry;
+    })
 
 tempo_of : (control : Control) → IsControlInRange control → control.tick ≢ 0 → 1 ≤ control.tempo
 tempo_of control p later = elim (cases_eq control.tempo 0) [
-      inl none ↦ let first = p.at_first none in absurd (omega arith)
-    | inr some ↦ omega arith ]
+  | inl none ↦ let first = p.at_first none in absurd (omega arith)
+  | inr some ↦ omega arith
+]
 
 pub placed_in_range : (song : Module) (control : Control) → IsValid song → IsControlInRange control → IsPlaying (placed song control)
 unfolding placed
 placed_in_range song control valid p =
     cond_both (eqb control.tick 0) _ control IsPlaying
-      (λ is. over_in_range song _ valid (back_in_range song _ valid (opened_in_range song control valid p (eqb-true control.tick 0 is))))
-      (λ is.
-        let later = eqb-false control.tick 0 is in
-        let running : 1 ≤ control.tempo = tempo_of control p later in
-        record {
-          pos = p.pos_within (omega arith);
-          row = p.row_within (omega arith);
-          delay = p.delay;
-          global = p.global;
-          some_tempo = running;
-          tempo = p.tempo;
-          tick = p.tick running;
-          slow = p.slow running;
-          fast = p.fast;
-          last = p.last;
-          carry = p.carry;
-        })
+    (λ is. over_in_range song _ valid (back_in_range song _ valid (opened_in_range song control valid p (eqb-true control.tick 0 is))))
+    (λ is.
+    let later = eqb-false control.tick 0 is in
+    let running : 1 ≤ control.tempo = tempo_of control p later in
+    record {
+      pos = p.pos_within (omega arith);
+      row = p.row_within (omega arith);
+      delay = p.delay;
+      global = p.global;
+      some_tempo = running;
+      tempo = p.tempo;
+      tick = p.tick running;
+      slow = p.slow running;
+      fast = p.fast;
+      last = p.last;
+      carry = p.carry;
+    })
 
 -- ---- the rows
 
@@ -148,10 +144,11 @@ pub record IsKept (state after : Song) : Type 0 where
 set_in_range : (lanes : List Lane) (i : ℕ) (new : Lane) → i < length lanes → IsLaneInRange i new → AreInRange lanes
     → (c : ℕ) → c < length lanes → IsLaneInRange c (get_or (set lanes i new) c blank_lane)
 set_in_range lanes i new inside here p c lt = elim (cases_eq c i) [
-      inl e ↦
-        subst (λ (k : ℕ). IsLaneInRange k (get_or (set lanes i new) k blank_lane)) (sym e)
-          (subst (IsLaneInRange i) (sym (get_or-set_same lanes i new blank_lane inside)) here)
-    | inr ne ↦ subst (IsLaneInRange c) (sym (get_or-set_other lanes i c new blank_lane ne)) (p c lt) ]
+  | inl e ↦
+      subst (λ (k : ℕ). IsLaneInRange k (get_or (set lanes i new) k blank_lane)) (sym e)
+      (subst (IsLaneInRange i) (sym (get_or-set_same lanes i new blank_lane inside)) here)
+  | inr ne ↦ subst (IsLaneInRange c) (sym (get_or-set_other lanes i c new blank_lane ne)) (p c lt)
+]
 
 turns_in_range : (rule : ℕ → Turn → Turn) → ((c : ℕ) (turn : Turn) → (rule c turn).control ≡ turn.control)
     → ((c : ℕ) (turn : Turn) → IsLaneInRange c turn.lane → IsLaneInRange c (rule c turn).lane)
@@ -185,7 +182,7 @@ unfolding row_started
 started_in_range version song valid c turn p =
     let q = p.channel in
     struck_lane version song c (cell_at song (order_at song turn.control.pos) turn.control.row c) _ valid
-      (record { channel = record { vol = q.vol; pan = q.pan; period = q.period; fade = q.fade; voice = q.voice; home = q.home }; stands = p.stands })
+    (record { channel = record { vol = q.vol; pan = q.pan; period = q.period; fade = q.fade; voice = q.voice; home = q.home }; stands = p.stands })
 
 later_control : (version : ℕ) (song : Module) (c : ℕ) (turn : Turn) → (goes_on version song c turn).control ≡ turn.control
 unfolding row_ticked
@@ -209,7 +206,7 @@ rows_in_range version song state valid p =
     let first = turns_in_range (starts version song) (started_control version song) (started_in_range version song valid) many fresh (omega arith) cleared_lanes in
     let later = turns_in_range (goes_on version song) (later_control version song) (later_in_range version song) many fresh (omega arith) cleared_lanes in
     either_song state (eqb state.control.tick 0) _ _
-      (record { control = first.control; many = first.many ∙ as_many; lanes = first.lanes })
-      (either_song state (eqb (state.control.tick % state.control.tempo) 0) _ _
-        (record { control = refl; many = as_many; lanes = cleared_lanes })
-        (record { control = later.control; many = later.many ∙ as_many; lanes = later.lanes }))
+    (record { control = first.control; many = first.many ∙ as_many; lanes = first.lanes })
+    (either_song state (eqb (state.control.tick % state.control.tempo) 0) _ _
+    (record { control = refl; many = as_many; lanes = cleared_lanes })
+    (record { control = later.control; many = later.many ∙ as_many; lanes = later.lanes }))

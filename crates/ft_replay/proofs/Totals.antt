@@ -1,6 +1,5 @@
 -- A whole tick, from range to range.
-use Rattle.std.proofs.Common.{◌≡◌, ◌≢◌, ℕ, ◌≤◌, ◌<◌, ◌+◌, ◌-◌, ◌*◌, ◌/◌, ◌%◌, Bool, true, false, None, Some, length, get_or, set, map, eqb, refl, ap, sym, ◌∙◌, subst, arith, inl, inr}
-use Rattle.std.specs.Prelude.{replicate}
+use Rattle.std.proofs.Common.{◌≡◌, ◌≢◌, ℕ, ◌≤◌, ◌<◌, ◌+◌, ◌*◌, ◌/◌, None, map, eqb, refl, sym, ◌∙◌, subst, arith, inl, inr}
 use Rattle.std.proofs.lemmas.Bool.{cond_both, eqb-true, eqb-false, cases_eq}
 use Rattle.std.proofs.lemmas.List.{length-map, get_or-replicate, length-replicate}
 use Rattle.std.proofs.lemmas.Nat.{mod_below, le-div}
@@ -13,7 +12,7 @@ use Rattle.ft_replay.specs.State.{Lane, Song, blank_lane, first_song, first_chan
 use Rattle.ft_replay.specs.Pitch.{tick_frames, tick_room, carried}
 use Rattle.ft_replay.specs.Range.{IsChannelInRange, IsLaneInRange, IsControlInRange, IsPlaying, AreInRange, IsInRange}
 use Rattle.ft_replay.specs.Row.{with_channel}
-use Rattle.ft_replay.specs.Tick.{Made, Ticked, rows_done, heard, placed, tick_made, seq_tick, advanced}
+use Rattle.ft_replay.specs.Tick.{Ticked, rows_done, heard, placed, tick_made, seq_tick, advanced}
 use Rattle.ft_replay.specs.Sound.{moved}
 use Rattle.ft_replay.proofs.Ranges.{heard_lane, moved_lane}
 use Rattle.ft_replay.proofs.Ticks.{placed_in_range, rows_in_range, mapped_in_range}
@@ -25,10 +24,11 @@ rest_bound : (rate : ℕ) (control : Control) → IsPlaying control → rate ≤
 rest_bound rate control p slow =
     let low = p.slow in
     cond_both (eqb control.bpm control.last_bpm) control.carry 0 (λ (rest : ℕ). 5 * rate + rest < 240000 + 2 * control.bpm)
-      (λ is. let same = eqb-true control.bpm control.last_bpm is in elim (cases_eq control.carry 0) [
-          inl none ↦ omega arith
-        | inr some ↦ let within = p.carry (omega arith) in omega arith ])
-      (λ is. omega arith)
+    (λ is. let same = eqb-true control.bpm control.last_bpm is in elim (cases_eq control.carry 0) [
+      | inl none ↦ omega arith
+      | inr some ↦ let within = p.carry (omega arith) in omega arith
+    ])
+    (λ is. omega arith)
 
 pub most_frames : (rate : ℕ) (control : Control) → IsPlaying control → rate ≤ 48000 → tick_frames rate control ≤ 3750
 unfolding tick_frames
@@ -70,36 +70,36 @@ unfolding advanced
 advanced_in_range control p =
     let pos = p.pos in let row = p.row in let some = p.some_tempo in let tick = p.tick in
     cond_both (eqb (control.tick + 1) (control.tempo * (1 + control.delay))) _ _ IsControlInRange
-      (λ is. record {
-        pos = omega arith;
-        row = omega arith;
-        pos_within = λ later. absurd (omega arith);
-        row_within = λ later. absurd (omega arith);
-        delay = omega arith;
-        global = p.global;
-        tempo = p.tempo;
-        at_first = λ none. refl;
-        tick = λ here. omega arith;
-        slow = λ here. p.slow;
-        fast = p.fast;
-        last = p.last;
-        carry = p.carry;
-      })
-      (λ is. let ne = eqb-false (control.tick + 1) (control.tempo * (1 + control.delay)) is in record {
-        pos = omega arith;
-        row = omega arith;
-        pos_within = λ later. p.pos;
-        row_within = λ later. p.row;
-        delay = p.delay;
-        global = p.global;
-        tempo = p.tempo;
-        at_first = λ none. absurd (omega arith);
-        tick = λ here. next_below control.tick (control.tempo * (1 + control.delay)) p.tick ne;
-        slow = λ here. p.slow;
-        fast = p.fast;
-        last = p.last;
-        carry = p.carry;
-      })
+    (λ is. record {
+      pos = omega arith;
+      row = omega arith;
+      pos_within = λ later. absurd (omega arith);
+      row_within = λ later. absurd (omega arith);
+      delay = omega arith;
+      global = p.global;
+      tempo = p.tempo;
+      at_first = λ none. refl;
+      tick = λ here. omega arith;
+      slow = λ here. p.slow;
+      fast = p.fast;
+      last = p.last;
+      carry = p.carry;
+    })
+    (λ is. let ne = eqb-false (control.tick + 1) (control.tempo * (1 + control.delay)) is in record {
+      pos = omega arith;
+      row = omega arith;
+      pos_within = λ later. p.pos;
+      row_within = λ later. p.row;
+      delay = p.delay;
+      global = p.global;
+      tempo = p.tempo;
+      at_first = λ none. absurd (omega arith);
+      tick = λ here. next_below control.tick (control.tempo * (1 + control.delay)) p.tick ne;
+      slow = λ here. p.slow;
+      fast = p.fast;
+      last = p.last;
+      carry = p.carry;
+    })
 
 -- ---- the tick
 

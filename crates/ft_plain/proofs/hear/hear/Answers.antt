@@ -1,4 +1,4 @@
-use Rattle.std.proofs.Common.{arith, length, get_or, ◌<◌}
+use Rattle.std.proofs.Common.{arith, get_or}
 use Rattle.std.proofs.lemmas.List.{get_or_default}
 use Rattle.std.proofs.lemmas.List.Edits.{map_over_more}
 use Rattle.ft_replay.specs.State.{blank_channel}
@@ -9,4 +9,4 @@ pub loop-channel-preserved : goal.loop-channel-preserved
 loop-channel-preserved c =
     let l = c.loop-channel in
     rw c.hear_one.ensures (map_over_more (heard c.args.rate c.args.global c.args.view.now.song.now) c.args.channels.now l.channels l.channel-index
-      (get_or l.channels l.channel-index blank_channel) (omega arith) l.invariant (get_or_default l.channels l.channel-index blank_channel _ (omega arith)))
+    (get_or l.channels l.channel-index blank_channel) (omega arith) l.invariant (get_or_default l.channels l.channel-index blank_channel _ (omega arith)))

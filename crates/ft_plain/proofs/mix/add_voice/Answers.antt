@@ -1,6 +1,5 @@
-use Rattle.std.proofs.Common.{◌≡◌, ℕ, ℤ, ◌<◌, ◌+◌, ◌*◌, ◌^◌, None, Some, Option, List, length, get_or, ap, sym, ◌∙◌, arith}
+use Rattle.std.proofs.Common.{ℤ, ◌+◌, ◌*◌, None, Option, List, length, get_or, ap, sym, ◌∙◌, arith}
 use Rattle.ft_types.specs.declared.voice.Voice.{Voice}
-use Rattle.ft_replay.specs.Sound.{value_at}
 use Rattle.ft_replay.proofs.Sums.{path_bound}
 use Rattle.ft_plain.specs.Mixing.{narrow_value, adding, lane_adding, silent_sides}
 use Rattle.ft_plain.specs.Shows.{shown_of}

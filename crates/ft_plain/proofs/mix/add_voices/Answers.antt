@@ -1,4 +1,4 @@
-use Rattle.std.proofs.Common.{◌≡◌, ℕ, ℤ, ◌<◌, ◌≤◌, ◌+◌, None, List, length, get_or, drop, ap, subst, sym, ◌∙◌, arith, ◌+ℤ◌}
+use Rattle.std.proofs.Common.{◌≡◌, ℤ, ◌<◌, ◌≤◌, ◌+◌, None, length, get_or, drop, ap, subst, ◌∙◌, arith, ◌+ℤ◌}
 use Rattle.std.proofs.lemmas.List.{get_or_default}
 use Rattle.ft_replay.specs.State.{blank_channel}
 use Rattle.ft_replay.specs.Sound.{lane_adds, lanes_sum, left_of, right_of}
@@ -17,7 +17,7 @@ add_voice-requires-clause-range c =
 pub add_voice-requires-clause-room : goal.add_voice-requires-clause-room
 add_voice-requires-clause-room c = λ k d lt.
     subst (IsLoud 31) (get_or_default c.loop-c.sums k silent_sides d lt)
-      (louder c.loop-c.c 31 (get_or c.loop-c.sums k silent_sides) (omega arith) (c.loop-c.invariant.loud k (let many = c.loop-c.invariant.many in omega arith)))
+    (louder c.loop-c.c 31 (get_or c.loop-c.sums k silent_sides) (omega arith) (c.loop-c.invariant.loud k (let many = c.loop-c.invariant.many in omega arith)))
 
 pub loop-c-preserved : goal.loop-c-preserved
 loop-c-preserved c =
@@ -30,17 +30,17 @@ loop-c-preserved c =
     let voice = (get_or channels i blank_channel).voice in
     record {
       left = λ k lt.
-        let old = get_or c.loop-c.sums k silent_sides in
-        let now : (get_or c.add_voice.new.sums k silent_sides).left ≡ (old.left +ℤ lane_adds (left_of k) kept voice) =
-            ap (λ (s : Sides). s.left) (c.add_voice.ensures.sums k (omega arith)) in
-        ap (λ (x : ℤ). x +ℤ lanes_sum (left_of k) (drop (i + 1) (lanes_of channels shown.kept))) now
-        ∙ sum_on old.left (lane_adds (left_of k) kept voice) _ _ _ (next_sum (left_of k) channels shown i inside) (c.loop-c.invariant.left k lt);
+          let old = get_or c.loop-c.sums k silent_sides in
+          let now : (get_or c.add_voice.new.sums k silent_sides).left ≡ (old.left +ℤ lane_adds (left_of k) kept voice) =
+          ap (λ (s : Sides). s.left) (c.add_voice.ensures.sums k (omega arith)) in
+          ap (λ (x : ℤ). x +ℤ lanes_sum (left_of k) (drop (i + 1) (lanes_of channels shown.kept))) now
+          ∙ sum_on old.left (lane_adds (left_of k) kept voice) _ _ _ (next_sum (left_of k) channels shown i inside) (c.loop-c.invariant.left k lt);
       right = λ k lt.
-        let old = get_or c.loop-c.sums k silent_sides in
-        let now : (get_or c.add_voice.new.sums k silent_sides).right ≡ (old.right +ℤ lane_adds (right_of k) kept voice) =
-            ap (λ (s : Sides). s.right) (c.add_voice.ensures.sums k (omega arith)) in
-        ap (λ (x : ℤ). x +ℤ lanes_sum (right_of k) (drop (i + 1) (lanes_of channels shown.kept))) now
-        ∙ sum_on old.right (lane_adds (right_of k) kept voice) _ _ _ (next_sum (right_of k) channels shown i inside) (c.loop-c.invariant.right k lt);
+          let old = get_or c.loop-c.sums k silent_sides in
+          let now : (get_or c.add_voice.new.sums k silent_sides).right ≡ (old.right +ℤ lane_adds (right_of k) kept voice) =
+          ap (λ (s : Sides). s.right) (c.add_voice.ensures.sums k (omega arith)) in
+          ap (λ (x : ℤ). x +ℤ lanes_sum (right_of k) (drop (i + 1) (lanes_of channels shown.kept))) now
+          ∙ sum_on old.right (lane_adds (right_of k) kept voice) _ _ _ (next_sum (right_of k) channels shown i inside) (c.loop-c.invariant.right k lt);
       loud = λ k lt. c.add_voice.ensures.loud i k (omega arith) (c.loop-c.invariant.loud k lt);
       many = c.add_voice.ensures.many ∙ many;
     }
@@ -52,5 +52,5 @@ returns-clause-sums c = λ k lt.
     let end : length channels ≤ c.loop-c.c = omega arith in
     let sum = get_or c.loop-c.sums k silent_sides in
     sides_is sum _ _
-      (sum_done sum.left _ _ (no_sum (left_of k) channels shown c.loop-c.c end) (c.loop-c.invariant.left k lt))
-      (sum_done sum.right _ _ (no_sum (right_of k) channels shown c.loop-c.c end) (c.loop-c.invariant.right k lt))
+    (sum_done sum.left _ _ (no_sum (left_of k) channels shown c.loop-c.c end) (c.loop-c.invariant.left k lt))
+    (sum_done sum.right _ _ (no_sum (right_of k) channels shown c.loop-c.c end) (c.loop-c.invariant.right k lt))

@@ -1,4 +1,4 @@
-use Rattle.std.proofs.Common.{◌≡◌, ℕ, ◌<◌, ◌≤◌, length, get_or, drop, ◌+ℤ◌}
+use Rattle.std.proofs.Common.{◌≡◌, ℕ, ◌<◌, length, get_or, drop, ◌+ℤ◌}
 use Rattle.ft_replay.specs.Sound.{lanes_sum, left_of, right_of}
 use Rattle.ft_replay.specs.Stands.{lanes_of}
 use Rattle.ft_plain.specs.Mixing as mixing

@@ -1,5 +1,5 @@
-use Rattle.std.proofs.Common.{◌≡◌, ◌*◌, ◌≤◌, ◌∙◌, ap, arith, ℤ, pos, negsuc, to_z, of_z, w8, w32}
-use Rattle.std.specs.Prelude.{nat_abs, ◌-ℤ◌, ◌*ℤ◌, ◌≤ℤ◌}
+use Rattle.std.proofs.Common.{◌*◌, ◌∙◌, ap, arith, ℤ, pos, to_z, of_z, w8, w32}
+use Rattle.std.specs.Prelude.{nat_abs, ◌-ℤ◌, ◌*ℤ◌}
 use Rattle.std.proofs.lemmas.Int.{ints, to_z-of_z}
 use Rattle.ft_replay.specs.Pitch.{linear_period, floor_div}
 use Rattle.ft_plain.proofs.pitch.linear_period.Goals as goal
@@ -8,6 +8,6 @@ pub returns-clause-value : goal.returns-clause-value
 unfolding linear_period
 returns-clause-value c =
     ap nat_abs {x = to_z w32 (of_z w32 (to_z w32 (of_z w32 (pos 7680 -ℤ to_z w32 (of_z w32 (pos 64 *ℤ to_z w32 (of_z w32 c.from.result))))) -ℤ to_z w32 (of_z w32 c.from-2.result)))}
-      {y = (pos 7680 -ℤ pos (64 * c.args.note)) -ℤ c.half_down.result} (omega (arith, ints))
+    {y = (pos 7680 -ℤ pos (64 * c.args.note)) -ℤ c.half_down.result} (omega (arith, ints))
     ∙ ap (λ (half : ℤ). nat_abs ((pos 7680 -ℤ pos (64 * c.args.note)) -ℤ half)) c.half_down.ensures.value
     ∙ ap (λ (finetune : ℤ). nat_abs ((pos 7680 -ℤ pos (64 * c.args.note)) -ℤ floor_div finetune 2)) (to_z-of_z w8 c.args.finetune c.ranges.finetune)

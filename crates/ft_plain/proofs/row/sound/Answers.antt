@@ -1,4 +1,4 @@
-use Rattle.std.proofs.Common.{rules, ◌≡◌, ◌∙◌, ◌-◌, ◌&&◌, sym, ap, None, Some, Bool, ℕ, ℤ, to_z, of_z}
+use Rattle.std.proofs.Common.{rules, ◌≡◌, ◌∙◌, ◌-◌, ◌&&◌, sym, ap, None, ℕ, ℤ, to_z, of_z}
 use Rattle.std.specs.Prelude.{nat_lt, nat_abs, FitsSigned}
 use Rattle.std.specs.Int.{w8, w16}
 use Rattle.std.proofs.lemmas.Int.{to_z-of_z}
@@ -22,10 +22,10 @@ returns-then-not-can_begin c =
     let small : FitsSigned w8 head.relative = search rules in
     let fits : FitsSigned w16 c.played_note-note.result = search rules in
     sounded_not before (shown_of c.stop.new.self.song.now c.stop.new.self.kept) c.args.c c.args.cell c.args.channel.now head
-      (sym c.is_note.ensures ∙ c.if-not-is_note.false) (sym c.start.ensures.value ∙ c.in-Some.is)
-      (ap (λ (note : ℤ). is_played note && nat_lt 0 head.frames) (as_played c.args.cell.note head.relative c.played_note-note.result small fits c.played_note-note.ensures)
-        ∙ sym c.can_begin.ensures.value ∙ c.if-not-can_begin.true)
-      (c.stop.ensures ∙ ap (keeping c.args.c None) c.start.ensures.shown ∙ keeping_twice c.args.c (begun 0 c.args.view.now.song.now c.args.channel.now.instrument (c.args.cell.note - 1)) None before)
+    (sym c.is_note.ensures ∙ c.if-not-is_note.false) (sym c.start.ensures.value ∙ c.in-Some.is)
+    (ap (λ (note : ℤ). is_played note && nat_lt 0 head.frames) (as_played c.args.cell.note head.relative c.played_note-note.result small fits c.played_note-note.ensures)
+    ∙ sym c.can_begin.ensures.value ∙ c.if-not-can_begin.true)
+    (c.stop.ensures ∙ ap (keeping c.args.c None) c.start.ensures.shown ∙ keeping_twice c.args.c (begun 0 c.args.view.now.song.now c.args.channel.now.instrument (c.args.cell.note - 1)) None before)
 
 pub returns : goal.returns
 returns c =
@@ -36,8 +36,8 @@ returns c =
     let fits : FitsSigned w16 c.played_note-note.result = search rules in
     let played = as_played c.args.cell.note head.relative c.played_note-note.result small fits c.played_note-note.ensures in
     sounded_so before (shown_of c.start.new.self.song.now c.start.new.self.kept) c.args.c c.args.cell c.args.channel.now c.take_voice.new.channel head c.period_of-period.result
-      (sym c.is_note.ensures ∙ c.if-not-is_note.false) (sym c.start.ensures.value ∙ c.in-Some.is)
-      (ap (λ (note : ℤ). is_played note && nat_lt 0 head.frames) played ∙ sym c.can_begin.ensures.value ∙ c.if-not-can_begin.false)
-      c.start.ensures.shown
-      (c.period_of-period.ensures ∙ ap (λ (note : ℤ). linear_period (nat_abs note) head.finetune) (sym played))
-      (c.take_voice.ensures ∙ ap (λ (voice : Voice). row.with_voice voice c.period_of-period.result c.args.channel.now) c.new_voice.ensures)
+    (sym c.is_note.ensures ∙ c.if-not-is_note.false) (sym c.start.ensures.value ∙ c.in-Some.is)
+    (ap (λ (note : ℤ). is_played note && nat_lt 0 head.frames) played ∙ sym c.can_begin.ensures.value ∙ c.if-not-can_begin.false)
+    c.start.ensures.shown
+    (c.period_of-period.ensures ∙ ap (λ (note : ℤ). linear_period (nat_abs note) head.finetune) (sym played))
+    (c.take_voice.ensures ∙ ap (λ (voice : Voice). row.with_voice voice c.period_of-period.result c.args.channel.now) c.new_voice.ensures)

@@ -1,4 +1,4 @@
-use Rattle.std.proofs.Common.{◌≡◌, ◌∙◌, ℕ, List, length, map, refl, sym, ap, subst}
+use Rattle.std.proofs.Common.{◌≡◌, ◌∙◌, ℕ, List, length, map, refl, ap, subst}
 use Rattle.ft_types.specs.declared.module.Module.{Module}
 use Rattle.ft_types.specs.Views.{Shown}
 use Rattle.ft_replay.specs.declared.state.Channel.{Channel}
@@ -16,7 +16,7 @@ returns-then-control-ne0-clause-made c =
       version = refl;
       song = refl;
       state = ap (λ (l : List Channel). song_of c.args.control.now l before) c.clear_all.ensures
-        ∙ rows_later 0 before.song c.args.control.now c.args.channels.now before c.if-control-ne0.true;
+          ∙ rows_later 0 before.song c.args.control.now c.args.channels.now before c.if-control-ne0.true;
     }
 
 pub returns-clause-made : goal.returns-clause-made
@@ -25,7 +25,7 @@ returns-clause-made c =
     let after : Shown = shown_of c.start_rows.new.view.song.now c.start_rows.new.view.kept in
     let clear : c.clear_all.new.channels ≡ map tick.cleared c.args.channels.now = c.clear_all.ensures in
     let made = subst (λ (l : List Channel). Made (λ (version : ℕ) (song : Module) (state : Song). tick.in_turn (tick.starts version song) (length l) state) before after
-        (song_of c.args.control.now l before) (song_of c.args.control.now c.start_rows.new.channels after)) clear c.start_rows.ensures.made in
+    (song_of c.args.control.now l before) (song_of c.args.control.now c.start_rows.new.channels after)) clear c.start_rows.ensures.made in
     record {
       version = made.version;
       song = made.song;

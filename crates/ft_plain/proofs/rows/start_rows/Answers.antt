@@ -1,4 +1,4 @@
-use Rattle.std.proofs.Common.{◌≡◌, ◌∙◌}
+use Rattle.std.proofs.Common.{◌∙◌}
 use Rattle.ft_replay.specs.Tick as tick
 use Rattle.ft_replay.proofs.Lanes.{next_turn}
 use Rattle.ft_plain.proofs.rows.start_rows.Goals as goal

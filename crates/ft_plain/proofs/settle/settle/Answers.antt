@@ -1,4 +1,4 @@
-use Rattle.std.proofs.Common.{◌≡◌, ℕ, ◌<◌, ◌≤◌, ◌+◌, ◌++◌, None, List, length, get_or, set, map, take, drop, ap, subst, refl, sym, ◌∙◌, arith}
+use Rattle.std.proofs.Common.{◌≡◌, ◌<◌, ◌≤◌, ◌++◌, List, length, get_or, map, take, ap, subst, refl, sym, ◌∙◌, arith}
 use Rattle.std.proofs.lemmas.List.{length-map, length-set, drop_all, take_all, append-nil, get_or_default}
 use Rattle.std.proofs.lemmas.List.Edits.{map_over_more}
 use Rattle.ft_types.specs.Views.{Shown}
@@ -21,8 +21,8 @@ settle_one-requires-clause-range c =
     let inside : i < length lanes = omega (arith, length-lanes_of c.args.channels.now first.kept) in
     let here : i < length c.loop-c.channels = omega arith in
     let same : get_or lanes i blank_lane ≡ lane_of i now (get_or c.loop-c.channels i blank_channel) =
-        sym (at_seam (moved c.args.frames) lanes i blank_lane inside) ∙ ap (λ (l : List Lane). get_or l i blank_lane) (sym c.loop-c.invariant.lanes)
-        ∙ get_or-lanes_of c.loop-c.channels now.kept i blank_channel here in
+    sym (at_seam (moved c.args.frames) lanes i blank_lane inside) ∙ ap (λ (l : List Lane). get_or l i blank_lane) (sym c.loop-c.invariant.lanes)
+    ∙ get_or-lanes_of c.loop-c.channels now.kept i blank_channel here in
     subst (IsLaneInRange i) same (c.requires.range i inside)
 
 pub loop-c-preserved : goal.loop-c-preserved
@@ -39,7 +39,7 @@ loop-c-preserved c =
     record {
       song = ap (λ (s : Shown). s.song) c.settle_one.ensures.kept ∙ c.loop-c.invariant.song;
       lanes = became_lane c.loop-c.channels now after i (moved c.args.frames lane) c.settle_one.new.channel (let wide = c.loop-c.invariant.wide in omega arith) c.settle_one.ensures
-        ∙ map_over_more (moved c.args.frames) lanes (lanes_of c.loop-c.channels now.kept) i lane inside c.loop-c.invariant.lanes (sym (get_or-lanes_of c.loop-c.channels now.kept i blank_channel here) ∙ get_or_default (lanes_of c.loop-c.channels now.kept) i blank_lane lane (omega (arith, length-lanes_of c.loop-c.channels now.kept)));
+          ∙ map_over_more (moved c.args.frames) lanes (lanes_of c.loop-c.channels now.kept) i lane inside c.loop-c.invariant.lanes (sym (get_or-lanes_of c.loop-c.channels now.kept i blank_channel here) ∙ get_or_default (lanes_of c.loop-c.channels now.kept) i blank_lane lane (omega (arith, length-lanes_of c.loop-c.channels now.kept)));
       wide = omega (arith, c.loop-c.invariant.wide, ap (λ (s : Shown). length s.kept) c.settle_one.ensures.kept, length-set now.kept i (moved c.args.frames lane).owned);
       many = length-set c.loop-c.channels i c.settle_one.new.channel ∙ many;
     }

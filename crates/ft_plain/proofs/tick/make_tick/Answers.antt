@@ -1,8 +1,7 @@
-use Rattle.std.proofs.Common.{◌≡◌, ◌≤◌, ◌<◌, ◌∙◌, ℕ, sym, ap, subst, arith}
+use Rattle.std.proofs.Common.{◌≡◌, ◌≤◌, sym, subst}
 use Rattle.ft_types.specs.declared.module.Module.{Module}
 use Rattle.ft_types.specs.Valid.{IsValid}
 use Rattle.ft_replay.specs.declared.state.Control.{Control}
-use Rattle.ft_replay.specs.Pitch.{carried}
 use Rattle.ft_replay.specs.Range.{IsControlInRange, IsPlaying}
 use Rattle.ft_replay.specs.Tick.{placed}
 use Rattle.ft_replay.proofs.Ticks.{placed_in_range}
@@ -26,12 +25,12 @@ tick_frames-frames-requires-clause-carry c =
 pub hear-requires-clause-vol : goal.hear-requires-clause-vol
 hear-requires-clause-vol c = λ k lt.
     (rows_channels (shown_of c.args.view.now.song.now c.args.view.now.kept) (shown_of c.do_rows.new.view.song.now c.do_rows.new.view.kept)
-      c.place.new.control c.args.channels.now c.do_rows.new.channels c.args.view.now.valid c.do_rows.ensures.made c.requires.range.lanes k lt).vol
+    c.place.new.control c.args.channels.now c.do_rows.new.channels c.args.view.now.valid c.do_rows.ensures.made c.requires.range.lanes k lt).vol
 
 pub hear-requires-clause-fade : goal.hear-requires-clause-fade
 hear-requires-clause-fade c = λ k lt.
     (rows_channels (shown_of c.args.view.now.song.now c.args.view.now.kept) (shown_of c.do_rows.new.view.song.now c.do_rows.new.view.kept)
-      c.place.new.control c.args.channels.now c.do_rows.new.channels c.args.view.now.valid c.do_rows.ensures.made c.requires.range.lanes k lt).fade
+    c.place.new.control c.args.channels.now c.do_rows.new.channels c.args.view.now.valid c.do_rows.ensures.made c.requires.range.lanes k lt).fade
 
 pub hear-requires-clause-global : goal.hear-requires-clause-global
 hear-requires-clause-global c =
@@ -51,5 +50,5 @@ advance-requires-clause-row c =
 pub returns-clause-made : goal.returns-clause-made
 returns-clause-made c =
     tick_of c.args.rate (shown_of c.args.view.now.song.now c.args.view.now.kept) (shown_of c.do_rows.new.view.song.now c.do_rows.new.view.kept)
-      c.args.control.now c.place.new.control c.tick_frames-frames.new.control c.advance.new.control c.args.channels.now c.do_rows.new.channels c.hear.new.channels
-      c.place.ensures c.do_rows.ensures.made c.tick_frames-frames.ensures.control c.hear.ensures c.advance.ensures
+    c.args.control.now c.place.new.control c.tick_frames-frames.new.control c.advance.new.control c.args.channels.now c.do_rows.new.channels c.hear.new.channels
+    c.place.ensures c.do_rows.ensures.made c.tick_frames-frames.ensures.control c.hear.ensures c.advance.ensures

@@ -1,4 +1,4 @@
-use Rattle.std.proofs.Common.{◌≡◌, ℕ, zero, suc, ◌≤◌, ◌*◌, ◌∙◌, sym, subst, arith, ℤ, pos, negsuc, ◌*ℤ◌, to_z, of_z, w32}
+use Rattle.std.proofs.Common.{ℕ, suc, ◌≤◌, ◌*◌, sym, subst, arith, ℤ, pos, negsuc, ◌*ℤ◌, to_z, w32}
 use Rattle.std.specs.Prelude.{◌≤ℤ◌, FitsSigned}
 use Rattle.std.proofs.lemmas.Int.{ints, to_z-of_z, to_z_pos}
 use Rattle.std.proofs.lemmas.Nat.{mul-le}
@@ -14,5 +14,5 @@ product_fits (negsuc a) gain g low high =
 pub overflow_mul-result : goal.overflow_mul-result
 overflow_mul-result c =
     subst (λ (value : ℤ). FitsSigned w32 (value *ℤ to_z w32 c.args.gain)) (sym (to_z-of_z w32 c.args.value c.ranges.value))
-      (subst (λ (gain : ℤ). FitsSigned w32 (c.args.value *ℤ gain)) (sym (to_z_pos w32 c.args.gain (omega arith)))
-        (product_fits c.args.value c.args.gain c.requires.gain c.requires.value_low c.requires.value_high))
+    (subst (λ (gain : ℤ). FitsSigned w32 (c.args.value *ℤ gain)) (sym (to_z_pos w32 c.args.gain (omega arith)))
+    (product_fits c.args.value c.args.gain c.requires.gain c.requires.value_low c.requires.value_high))

@@ -1,4 +1,4 @@
-use Rattle.std.proofs.Common.{◌≡◌, ℕ, ◌<◌, ◌+◌, ◌*◌, length, get_or, ap, ◌∙◌, arith, pos}
+use Rattle.std.proofs.Common.{length, ap, ◌∙◌, arith}
 use Rattle.ft_replay.specs.Sound.{clipped}
 use Rattle.ft_replay.specs.Stands.{lanes_of}
 use Rattle.ft_replay.proofs.Sounds.{sound_is}
@@ -12,6 +12,7 @@ returns-clause-sound c =
     let silent = c.silence.ensures.many in
     let added = c.add_voices.ensures.many in
     let written = c.write.ensures.many in
-    sound_is lanes (length c.args.sums.now) c.write.new.out (let room = c.requires.room in omega arith) (λ k lt.
-      (c.write.ensures.left k (omega arith) ∙ ap (λ (s : Sides). clipped s.left) (c.add_voices.ensures.sums k (omega arith)),
-       c.write.ensures.right k (omega arith) ∙ ap (λ (s : Sides). clipped s.right) (c.add_voices.ensures.sums k (omega arith))))
+    sound_is lanes (length c.args.sums.now) c.write.new.out (let room = c.requires.room in omega arith) (λ k lt. (
+      c.write.ensures.left k (omega arith) ∙ ap (λ (s : Sides). clipped s.left) (c.add_voices.ensures.sums k (omega arith)),
+      c.write.ensures.right k (omega arith) ∙ ap (λ (s : Sides). clipped s.right) (c.add_voices.ensures.sums k (omega arith)),
+    ))

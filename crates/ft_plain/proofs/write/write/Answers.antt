@@ -1,4 +1,4 @@
-use Rattle.std.proofs.Common.{◌≡◌, ℕ, ◌<◌, ◌+◌, ◌*◌, length, get_or, drop, ap, ◌∙◌, arith, pos, below_more}
+use Rattle.std.proofs.Common.{◌+◌, ◌*◌, length, ◌∙◌, arith, below_more}
 use Rattle.ft_plain.proofs.write.write.Goals as goal
 
 pub loop-k-preserved : goal.loop-k-preserved

@@ -1,4 +1,4 @@
-use Rattle.std.proofs.Common.{◌≡◌, ◌∙◌, ap, ℕ, get_or}
+use Rattle.std.proofs.Common.{◌∙◌, ap, ℕ, get_or}
 use Rattle.ft_plain.proofs.Kept.{past_orders}
 use Rattle.ft_plain.proofs.plain.Plain.order.Goals as goal
 

@@ -1,4 +1,4 @@
-use Rattle.std.proofs.Common.{◌≡◌, ◌∙◌, sym, ap, None, Some, Option}
+use Rattle.std.proofs.Common.{◌∙◌, sym, ap, Some, Option}
 use Rattle.ft_types.specs.Views.{Owned, keeping, head_of_owned, begun}
 use Rattle.ft_plain.specs.Shows.{shown_of}
 use Rattle.ft_plain.proofs.Kept.{sets, clears, begins_part}
@@ -11,7 +11,7 @@ returns-in_default-clause-value c =
 pub returns-in_default-clause-shown : goal.returns-in_default-clause-shown
 returns-in_default-clause-shown c =
     clears c.args.self.now.song.now c.args.self.now.kept c.args.channel (begun 0 c.args.self.now.song.now c.args.instrument c.args.note)
-      (ap head_of_owned (begins_part c.args.self.now.song.now c.args.instrument c.args.note c.number.result c.number.ensures) ∙ sym c.sounding.ensures ∙ c.in_default.is)
+    (ap head_of_owned (begins_part c.args.self.now.song.now c.args.instrument c.args.note c.number.result c.number.ensures) ∙ sym c.sounding.ensures ∙ c.in_default.is)
 
 pub returns-clause-value : goal.returns-clause-value
 returns-clause-value c =
@@ -21,4 +21,4 @@ pub returns-clause-shown : goal.returns-clause-shown
 returns-clause-shown c =
     sets c.args.self.now.song.now c.args.self.now.kept c.args.channel (Some (record { instrument = c.args.instrument; sample = c.number.result }))
     ∙ ap (λ (owned : Option Owned). keeping c.args.channel owned (shown_of c.args.self.now.song.now c.args.self.now.kept))
-        (sym (begins_part c.args.self.now.song.now c.args.instrument c.args.note c.number.result c.number.ensures))
+    (sym (begins_part c.args.self.now.song.now c.args.instrument c.args.note c.number.result c.number.ensures))
