@@ -17,3 +17,4 @@ pub mod Sounds
 pub mod Parts
 pub mod Played
 pub mod Octaves
+mod Worked
