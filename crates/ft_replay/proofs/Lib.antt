@@ -18,3 +18,4 @@ pub mod Parts
 pub mod Played
 pub mod Playing
 pub mod Octaves
+mod Worked
