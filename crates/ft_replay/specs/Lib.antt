@@ -7,3 +7,4 @@ pub mod Replay
 pub mod Range
 pub mod Stands
 pub mod Played
+pub mod Laws

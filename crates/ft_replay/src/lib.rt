@@ -5,6 +5,8 @@
 #![tactic(auto)]
 
 mod first;
+mod laws;
 mod state;
 
+pub use laws::{frequency_law, range_law, silence_law, sound_law};
 pub use state::{Channel, Control, Place, SongState};
