@@ -9,6 +9,7 @@ ghost use Rattle.ft_plain.specs.Shows.{shown_of};
 use crate::plain::Plain;
 use crate::seats::{gather, seat};
 use crate::settle::settle;
+use crate::sides::Sides;
 use crate::tick::make_tick;
 use crate::write::sound;
 use arrayvec::ArrayVec;
@@ -21,11 +22,13 @@ fn play_tick(
     channels: &mut [Channel],
     control: &mut Control,
     rate: u32,
+    sums: &mut [Sides],
     out: &mut [i16],
 ) -> Place
     requires few { length channels.old ≤ 32 }
     requires low { 8000 ≤ rate }
     requires high { rate ≤ 48000 }
+    requires sums { 3750 ≤ length sums.old }
     requires room { 7500 ≤ length out.old }
     requires range { IsInRange (length channels.old) (stands.song_of control.old channels.old (shown_of view.old.song.now view.old.kept)) }
     ensures song { view.new.song.now ≡ view.old.song.now }
@@ -39,7 +42,7 @@ fn play_tick(
     ensures many { length channels.new ≡ length channels.old }
 {
     let at = make_tick(view, channels, control, rate);
-    sound(view, channels, at.frames, out);
+    sound(view, channels, at.frames, sums, out);
     settle(view, channels, at.frames);
     at
 }
@@ -52,11 +55,13 @@ pub fn tick_parts(
     voices: &mut ArrayVec<Voice, 32>,
     used: u8,
     rate: u32,
+    sums: &mut [Sides],
     out: &mut [i16],
 ) -> Place
     requires used { used ≤ 32 }
     requires low { 8000 ≤ rate }
     requires high { rate ≤ 48000 }
+    requires sums { 3750 ≤ length sums.old }
     requires room { 7500 ≤ length out.old }
     requires seats { All (λ voice. voice.channel < used) voices.old.items }
     requires range { IsInRange used (stands.song_of control.old (stands.seated (take used channels.old) voices.old.items) (shown_of view.old.song.now view.old.kept)) }
@@ -76,7 +81,7 @@ pub fn tick_parts(
 {
     let channels = &mut channels[..used as usize];
     seat(channels, voices.as_slice());
-    let at = play_tick(view, channels, control, rate, out);
+    let at = play_tick(view, channels, control, rate, sums, out);
     *voices = gather(channels);
     at
 }

@@ -8,6 +8,7 @@ ghost use Rattle.ft_replay.specs.Tick as tick;
 
 use crate::plain::Plain;
 use crate::play::tick_parts;
+use crate::sides::Sides;
 use ft_replay::{Place, SongState};
 use ft_types::Module;
 use std::marker::Model;
@@ -20,6 +21,8 @@ pub struct Replayer<'a> {
     view: Plain<'a>,
     state: SongState,
     rate: u32,
+    /// Room for the sums of a tick.
+    sums: [Sides; 3750],
 }
 
 impl<'a> Model for Replayer<'a> {
@@ -51,6 +54,7 @@ impl<'a> Replayer<'a> {
             view,
             state: SongState::first(song.channels),
             rate,
+            sums: [Sides { left: 0, right: 0 }; 3750],
         }
     }
 
@@ -76,6 +80,7 @@ impl<'a> Replayer<'a> {
             &mut self.state.voices,
             used,
             self.rate,
+            &mut self.sums,
             out,
         )
     }

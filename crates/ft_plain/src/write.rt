@@ -72,16 +72,16 @@ fn sound_through(view: &Plain, channels: &[Channel], sums: &mut [Sides], out: &m
     write(sums, out);
 }
 
-/// Writes the sound of a tick of so many frames.
-pub fn sound(view: &Plain, channels: &[Channel], frames: u32, out: &mut [i16])
+/// Writes the sound of a tick of so many frames. What the lent sums hold afterwards isn't said.
+pub fn sound(view: &Plain, channels: &[Channel], frames: u32, sums: &mut [Sides], out: &mut [i16])
     requires few { length channels.now ≤ 32 }
     requires range { AreInRange (stands.lanes_of channels.now (shown_of view.now.song.now view.now.kept).kept) }
     requires frames { frames ≤ 3750 }
+    requires sums { 3750 ≤ length sums.old }
     requires room { 2 * frames ≤ length out.old }
     ensures sound { take (2 * frames) out.new ≡ sound.sound_of (stands.lanes_of channels.now (shown_of view.now.song.now view.now.kept).kept) frames }
     ensures rest { drop (2 * frames) out.new ≡ drop (2 * frames) out.old }
     ensures many { length out.new ≡ length out.old }
 {
-    let mut sums = [Sides { left: 0, right: 0 }; 3750];
     sound_through(view, channels, &mut sums[..frames as usize], out);
 }
