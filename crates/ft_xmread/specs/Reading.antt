@@ -1,6 +1,6 @@
 -- Reading a file from left to right, with the first fault that is met. A reading takes a place
 -- and gives a value and the place behind it. Longer parts are made of shorter ones by `both`,
--- `checked`, `seen` and `times`, and what holds of these holds of every part.
+-- `checked`, `seen`, `times` and `within`, and what holds of these holds of every part.
 use Rattle.std.specs.Prelude.{◌≡◌, ℕ, zero, suc, ◌+◌, Bool, true, false, List, [], ◌∷◌, length, take, drop, Result, Ok, Err, nat_lt, if◌then◌else◌}
 use Rattle.byteorder.specs.Endian.{little_number}
 use Rattle.ft_xmread.specs.declared.fault.XmFault.{XmFault}
