@@ -52,14 +52,14 @@ pub fn value_at(frames: &[i16], position: u64) -> i32
     let place = (position >> 32) as usize;
     let fraction = (position % (1 << 32)) as u32;
     let last = frames.len().saturating_sub(1);
-    if place < last {
-        return line(frames[place], frames[place + 1], fraction);
+    if place >= last {
+        return line(
+            frame_at(frames, place),
+            frame_at(frames, place + 1),
+            fraction,
+        );
     }
-    line(
-        frame_at(frames, place),
-        frame_at(frames, place + 1),
-        fraction,
-    )
+    line(frames[place], frames[place + 1], fraction)
 }
 
 /// What a value adds to a side by its gain, of 65,536. The product fits 32 bits.
