@@ -15,7 +15,6 @@ pub mod Sums
 pub mod Seats
 pub mod Sounds
 pub mod Parts
-pub mod Played
 pub mod Playing
 pub mod Octaves
 mod Worked

@@ -1,20 +1,30 @@
 -- Playing so many frames of a song, tick by tick.
-use Rattle.std.proofs.Common.{◌≡◌, ℕ, zero, suc, ◌+◌, ◌-◌, ◌*◌, ◌≤◌, ◌<◌, List, [], ◌∷◌, ◌++◌, ℤ, ap, ◌∙◌, sym, refl, arith, min, length, inl, inr, length-append}
+use Rattle.std.proofs.Common.{◌≡◌, ℕ, zero, suc, ◌+◌, ◌-◌, ◌*◌, ◌≤◌, ◌<◌, List, ◌++◌, ℤ, ap, ◌∙◌, sym, refl, arith, min, length, inl, inr, length-append}
 use Rattle.std.specs.Prelude.{All, sum_by, take, flat_map, replicate}
 use Rattle.std.proofs.lemmas.Bool.{cases_lt}
 use Rattle.std.proofs.lemmas.List.{take-append-le, append-nil}
 use Rattle.std.proofs.Math.Seq.{take-append-add, take-length}
 use Rattle.ft_types.specs.declared.module.Module.{Module}
 use Rattle.ft_types.specs.Valid.{IsValid}
-use Rattle.ft_replay.specs.declared.state.Place.{Place}
 use Rattle.ft_replay.specs.State.{Lane, Song, first_song}
 use Rattle.ft_replay.specs.Range.{IsInRange}
 use Rattle.ft_replay.specs.Sound.{sound_of, frame_at}
-use Rattle.ft_replay.specs.Tick.{Ticked, seq_tick}
-use Rattle.ft_replay.specs.Replay.{Renders, ticks_from, ticks_of, cut_places, replay}
+use Rattle.ft_replay.specs.Tick.{Ticked, seq_tick, tick_made}
+use Rattle.ft_replay.specs.Replay.{Renders, ticks_from, cut_places, replay}
 use Rattle.ft_replay.proofs.Replays.{cut_sum, cut_none_empty}
 use Rattle.ft_replay.proofs.Totals.{tick_in_range, first_in_range}
-use Rattle.ft_replay.proofs.Played.{length-sound}
+
+-- ---- the sound of a tick
+
+length-sound_of : (lanes : List Lane) (frames : ℕ) → length (sound_of lanes frames) ≡ 2 * frames
+unfolding sound_of frame_at
+length-sound_of lanes zero = refl
+length-sound_of lanes (suc frames) = omega (arith, length-append (sound_of lanes frames) (frame_at lanes frames), length-sound_of lanes frames)
+
+-- a tick has two numbers for each of its frames
+length-sound : (version : ℕ) (song : Module) (rate : ℕ) (state : Song) → length (seq_tick version song rate state).sound ≡ 2 * (seq_tick version song rate state).place.frames
+unfolding seq_tick
+length-sound version song rate state = length-sound_of (tick_made version song rate state).state.lanes (tick_made version song rate state).place.frames
 
 -- ---- ticks of one song
 
@@ -40,11 +50,13 @@ enough (suc fuel) (suc count) song rate channels state le valid fast slow range 
     let ticked = seq_tick 0 song rate state in
     let here = tick_in_range 0 song rate channels state valid fast slow range in
     let some : 1 ≤ ticked.place.frames = here.some_frames in
-    let after = enough fuel (suc count - ticked.place.frames) song rate channels ticked.state (omega arith) valid fast slow here.state in
-    (suc after.0, record {
-      whole = cut_sum (suc count) ticked (ticks_on song after.0 rate ticked.state) ∙ (let e = after.1.whole in omega arith);
-      none_empty = cut_none_empty (suc count) ticked (ticks_on song after.0 rate ticked.state) some (omega arith) after.1.none_empty;
-    })
+    let after = enough fuel (suc count - ticked.place.frames) song rate channels ticked.state (omega arith) valid fast slow here.state in (
+      suc after.0,
+      record {
+        whole = cut_sum (suc count) ticked (ticks_on song after.0 rate ticked.state) ∙ (let e = after.1.whole in omega arith);
+        none_empty = cut_none_empty (suc count) ticked (ticks_on song after.0 rate ticked.state) some (omega arith) after.1.none_empty;
+      },
+    )
 
 -- ---- one tick more
 
@@ -84,14 +96,16 @@ played song rate count state (suc after) some makes =
     let ticked = seq_tick 0 song rate state in
     let later = ticks_on song after rate ticked.state in
     let sum = cut_sum count ticked later in
-    let whole = makes.whole in
-    (after, record {
-      more = record {
-        whole = omega arith;
-        none_empty = λ i d lt. makes.none_empty (suc i) d (omega arith);
-      };
-      sound = cut_joined ticked.place.frames count ticked.sound (flat_map (λ (t : Ticked). t.sound) later) (length-sound 0 song rate state);
-    })
+    let whole = makes.whole in (
+      after,
+      record {
+        more = record {
+          whole = omega arith;
+          none_empty = λ i d lt. makes.none_empty (suc i) d (omega arith);
+        };
+        sound = cut_joined ticked.place.frames count ticked.sound (flat_map (λ (t : Ticked). t.sound) later) (length-sound 0 song rate state);
+      },
+    )
 
 -- ---- the whole song
 

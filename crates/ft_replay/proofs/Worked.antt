@@ -1,13 +1,12 @@
 -- Worked rows of the definitions, by computation.
-use Rattle.std.proofs.Common.{◌≡◌, ℕ, ◌*◌, ◌^◌, ℤ, pos, negsuc, None, Some, true, false, List, [], ◌∷◌, ◌++◌, take, drop, refl}
+use Rattle.std.proofs.Common.{◌≡◌, ℕ, ◌*◌, ◌^◌, pos, negsuc, None, Some, false, [], ◌∷◌, refl}
 use Rattle.std.specs.Prelude.{replicate}
 use Rattle.ft_types.specs.declared.sample.Sample.{Sample}
-use Rattle.ft_types.specs.declared.voice.Voice.{Voice}
-use Rattle.ft_types.specs.Views.{Owned, head_of}
-use Rattle.ft_replay.specs.State.{Lane, first_channel, first_control}
-use Rattle.ft_replay.specs.Pitch.{linear_period, linear_frequency, power_at, step_of, tick_frames}
+use Rattle.ft_types.specs.Views.{head_of}
+use Rattle.ft_replay.specs.State.{Lane, first_channel}
+use Rattle.ft_replay.specs.Pitch.{linear_period, linear_frequency, power_at, step_of}
 use Rattle.ft_replay.specs.Row.{new_voice}
-use Rattle.ft_replay.specs.Sound.{sound_of, frame_at, value_at, place_of, between, part, gained, moved, is_ended}
+use Rattle.ft_replay.specs.Sound.{sound_of, frame_at, value_at, place_of, between, part, gained, moved}
 use Rattle.ft_replay.specs.Tick.{gain_of}
 
 -- C-4, C#4, and finetunes on both sides

@@ -6,5 +6,4 @@ pub mod Sound
 pub mod Replay
 pub mod Range
 pub mod Stands
-pub mod Played
 pub mod Laws

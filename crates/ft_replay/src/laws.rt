@@ -6,23 +6,19 @@ ghost use Rattle.ft_replay.specs.Laws.{HasOctaves, StaysInRange, HasSound, IsSil
 /// that may be negative.
 pub fn frequency_law()
     ensures { HasOctaves }
-{
-}
+{}
 
 /// A song begins in range, and each tick of a valid song leaves it there.
 pub fn range_law()
     ensures { StaysInRange }
-{
-}
+{}
 
 /// A valid song can be played for any number of frames.
 pub fn sound_law()
     ensures { HasSound }
-{
-}
+{}
 
 /// A song without patterns and instruments is silent.
 pub fn silence_law()
     ensures { IsSilent }
-{
-}
+{}
