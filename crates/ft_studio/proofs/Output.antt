@@ -1,5 +1,5 @@
 -- The WAV file of a song: its head, and then its sound.
-use Rattle.std.proofs.Common.{◌≡◌, ℕ, ◌*◌, ◌≤◌, ◌++◌, List, [], ℤ, Option, refl, sym, subst, arith, Result, Ok, Err, OnOk, OnErr}
+use Rattle.std.proofs.Common.{ℕ, ◌*◌, ◌≤◌, ◌++◌, List, [], ℤ, Option, refl, sym, subst, arith, Result, Ok, Err, OnOk, OnErr}
 use Rattle.std.proofs.Math.Nat.{mul-le-mul_left}
 use Rattle.std.proofs.lemmas.List.{append-nil}
 use Rattle.std.specs.Io.KnownBytes.{Appends}

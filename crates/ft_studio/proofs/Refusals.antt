@@ -4,7 +4,6 @@ use Rattle.ft_outer.specs.Pieces.{GivesAll}
 use Rattle.ft_xmread.specs.declared.fault.XmFault.{XmFault}
 use Rattle.ft_xmread.specs.declared.fault.XmFault.TheVariants as faults
 use Rattle.ft_xmread.specs.Song.{HasFault, IsFaultOf}
-use Rattle.ft_studio.specs.declared.status.Status.{Status}
 use Rattle.ft_studio.specs.declared.status.Status.TheVariants as statuses
 use Rattle.ft_studio.specs.declared.status.SongFault.TheVariants.{Xm}
 use Rattle.ft_studio.specs.Run.{refusal_of, Refuses}

@@ -1,5 +1,5 @@
 -- A song that is being played into a sink, tick by tick.
-use Rattle.std.proofs.Common.{◌≡◌, ℕ, ◌+◌, ◌-◌, ◌*◌, ◌≤◌, ◌<◌, List, [], ◌++◌, ℤ, Option, ap, ◌∙◌, sym, subst, refl, arith, min, take, take-take, Result, Ok, Err, OnOk, OnErr}
+use Rattle.std.proofs.Common.{◌≡◌, ℕ, ◌-◌, ◌*◌, ◌≤◌, List, [], ◌++◌, ℤ, Option, ap, ◌∙◌, sym, subst, refl, arith, min, take, take-take}
 use Rattle.std.specs.Io.KnownBytes.{Appends}
 use Rattle.ft_types.specs.declared.module.Module.{Module}
 use Rattle.ft_types.specs.Valid.{IsValid}

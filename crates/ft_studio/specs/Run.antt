@@ -1,5 +1,5 @@
 -- What a run of `step` writes.
-use Rattle.std.specs.Prelude.{◌≡◌, ℕ, ◌*◌, ◌<◌, ◌≤◌, ◌⊎◌, ℤ, List, length, Option, Some, None, String, IfSome}
+use Rattle.std.specs.Prelude.{◌≡◌, ℕ, ◌*◌, ℤ, List, Option, Some, String, IfSome}
 use Rattle.std.specs.declared.alloc.Global.{Global}
 use Rattle.ft_types.specs.declared.module.Module.{Module}
 use Rattle.ft_types.specs.Valid.{IsValid}
@@ -11,7 +11,7 @@ use Rattle.ft_xmread.specs.declared.fault.XmFault.TheVariants as faults
 use Rattle.ft_xmread.specs.Song.{IsSongOf}
 use Rattle.ft_studio.specs.declared.words.Step.{Step}
 use Rattle.ft_studio.specs.declared.status.Status.{Status}
-use Rattle.ft_studio.specs.declared.status.Status.TheVariants.{Done, Usage, Song, SongRead, WavWrite, LedgerWrite, PoolSmall, NoMemory, HandEnded}
+use Rattle.ft_studio.specs.declared.status.Status.TheVariants.{Done, Song, SongRead, WavWrite, LedgerWrite, PoolSmall, NoMemory, HandEnded}
 use Rattle.ft_studio.specs.declared.status.SongFault.TheVariants.{Xm, TooBig}
 use Rattle.ft_studio.specs.Words.{step_of}
 

@@ -1,4 +1,4 @@
-use Rattle.std.proofs.Common.{◌≡◌, ◌≤◌, ◌-◌, ℤ, List, refl, subst, ◌∙◌, sym, arith}
+use Rattle.std.proofs.Common.{◌≤◌, ℤ, List, refl, subst, ◌∙◌, sym, arith}
 use Rattle.std.proofs.lemmas.Result.{err_from_is_err_and}
 use Rattle.std.specs.Io.KnownBytes.{Appends}
 use Rattle.ft_outer.specs.Pieces.{TakesFront}

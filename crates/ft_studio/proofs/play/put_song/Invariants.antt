@@ -1,5 +1,4 @@
-use Rattle.std.proofs.Common.{◌≡◌, ◌≤◌, length}
-use Rattle.ft_types.specs.Valid.{IsValid}
+use Rattle.std.proofs.Common.{◌≡◌}
 use Rattle.ft_studio.proofs.Underway.{Underway}
 use Rattle.ft_studio.proofs.play.put_song.Given as goal
 

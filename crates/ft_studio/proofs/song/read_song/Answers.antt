@@ -1,12 +1,10 @@
-use Rattle.std.proofs.Common.{◌≡◌, ℕ, List, Err, Some, sym, subst, ◌∙◌}
+use Rattle.std.proofs.Common.{◌≡◌, ℕ, List, Err, sym, subst, ◌∙◌}
 use Rattle.std.specs.Prelude.{Result}
 use Rattle.ft_types.specs.declared.module.Module.{Module as Song}
-use Rattle.ft_xmread.specs.declared.fault.XmFault.{XmFault as Fault}
 use Rattle.ft_xmread.specs.Song.{HasFault, IsFaultOf}
 use Rattle.ft_studio.specs.declared.status.Status.{Status}
-use Rattle.ft_studio.specs.Run.{Refuses, refusal_of}
+use Rattle.ft_studio.specs.Run.{Refuses}
 use Rattle.ft_studio.proofs.Refusals.{told_file, is_fault, refuses}
-use Rattle.ft_studio.proofs.song.read_song.Given.{Over}
 use Rattle.ft_studio.proofs.song.read_song.Goals as goal
 
 err_is : (a b : Status) → (let r : Result Song Status = Err a in r) ≡ Err b → a ≡ b
