@@ -1,8 +1,10 @@
 //! Runs over sources and sinks in memory.
 
+mod build;
 mod helpers;
 mod notes;
 mod outside;
 mod refusals;
 mod silence;
+mod songs;
 mod words;

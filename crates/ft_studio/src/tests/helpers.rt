@@ -90,7 +90,7 @@ pub fn run(
 ) -> Result<Outcome, AllocError> {
     let words = words_of(alloc, text)?;
     let mut source = MemSource::new(song, 100, bad_reads);
-    let mut wav = MemSink::new(alloc, 50_000, 1_000, bad_writes).map_err(|_| AllocError)?;
+    let mut wav = MemSink::new(alloc, 200_000, 1_000, bad_writes).map_err(|_| AllocError)?;
     let mut ledger = Counter { bytes: 0 };
     let status = run_plain(alloc, &words, &mut source, &mut wav, &mut ledger);
     Ok(Outcome {
