@@ -19,12 +19,12 @@ fn play(alloc: Global, song: Vec<u8>) -> Result<Outcome, AllocError> {
 
 /// Asserts that a WAV of 8,363 frames begins with so many frames of 2,048 on both sides, and is
 /// silent from there on.
-fn assert_frames(rt: &impl Abort, outcome: &Outcome, frames: usize) {
+fn assert_frames(rt: &impl Abort, outcome: &Outcome, frames: u8) {
     assert!(rt; outcome.status == Status::Done);
     let wav = outcome.wav.bytes();
     assert_eq!(rt; wav.len(), 44 + 4 * 8_363);
     for (at, byte) in wav[44..].iter().enumerate() {
-        let sounds = at < 4 * frames && at % 2 == 1;
+        let sounds = at < 4 * usize::from(frames) && at % 2 == 1;
         assert_eq!(rt; *byte, if sounds { 8 } else { 0 }, "byte {at}");
     }
 }
