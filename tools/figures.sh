@@ -22,3 +22,30 @@ awk -v t="$total" -v f="$frames" 'BEGIN { printf "  %d instructions, %.2f a fram
 /usr/bin/time -f '  %M KiB of memory, %e s' "$program" step "$silence" /dev/null ledger --rate=48000 --seconds=1200
 echo "silence of one second:"
 /usr/bin/time -f '  %U s in the program, %S s in the system' "$program" step "$silence" "$work/out.wav" ledger --seconds=1
+
+# songs of many voices: python3 and tools/canonical.py make them
+cat >"$work/voices.py" <<'PYTHON'
+import math
+import sys
+
+sys.path.insert(0, sys.argv[1])
+from canonical import header, instrument, pattern
+
+channels, rows_apart, path = int(sys.argv[2]), int(sys.argv[3]), sys.argv[4]
+frames = [round(100 * math.sin(at * 0.05)) for at in range(200000)]
+notes = {(row, channel): (49, 1, 0x38, 0, 0) for row in range(0, 256, rows_apart) for channel in range(channels)}
+song = header(b"voices", [0, 0, 0], channels, 1, 1) + pattern(256, channels, notes) + instrument(b"sine", frames)
+open(path, "wb").write(song)
+PYTHON
+python3 "$work/voices.py" "$here/tools" 32 256 "$work/many.xm"
+python3 "$work/voices.py" "$here/tools" 8 64 "$work/eight.xm"
+short=$(count step "$work/many.xm" /dev/null ledger --seconds=2)
+long=$(count step "$work/many.xm" /dev/null ledger --seconds=6)
+awk -v s="$short" -v l="$long" 'BEGIN { printf "32 voices at 44,100 Hz: %.2f instructions a frame and voice\n", (l - s) / (4 * 44100 * 32) }'
+echo "60 seconds of 8 voices:"
+/usr/bin/time -f '  %U s' "$program" step "$work/eight.xm" "$work/out.wav" ledger --seconds=60
+if command -v xmp >/dev/null; then
+    /usr/bin/time -f '  %U s by xmp' xmp -q -i linear -d wav -o "$work/xmp.wav" -t 60 "$work/eight.xm" >/dev/null
+else
+    echo "  (for a comparison install the package xmp)"
+fi
