@@ -9,7 +9,7 @@ use Rattle.ft_replay.specs.declared.state.Control.{Control}
 use Rattle.ft_replay.specs.declared.state.SongState.{SongState}
 use Rattle.ft_replay.specs.State.{Lane, Song, first_channel, first_control, first_song}
 use Rattle.ft_replay.specs.Range.{IsInRange}
-use Rattle.ft_replay.specs.Stands.{lanes_of, seated, song_of, state_of}
+use Rattle.ft_replay.specs.Stands.{IsAscending, lanes_of, seated, song_of, state_of}
 use Rattle.ft_replay.proofs.Totals.{first_in_range}
 use Rattle.ft_plain.specs.declared.part.Part.{Part}
 use Rattle.ft_plain.specs.Replaying.{IsReady}
@@ -39,11 +39,13 @@ first_state song parts state channels few none control used all silent =
 pub first_ready : (rate : ℕ) (song : Module) (parts : List (Option Part)) (state : SongState) (channels : ℕ) → 8000 ≤ rate → rate ≤ 48000 → channels ≤ 32 → parts ≡ replicate 32 None
     → state.control ≡ first_control → state.used ≡ channels → state.channels ≡ replicate 32 first_channel → state.voices.items ≡ []
     → IsReady rate state (shown_of song parts)
+unfolding IsAscending
 first_ready rate song parts state channels low high few none control used all silent = record {
   few = omega arith;
   low = low;
   high = high;
   seats = λ i d lt. absurd (omega (arith, ap length silent));
+  ascend = subst (λ (voices : List Voice). IsAscending 0 state.used voices) (sym silent) tt;
   range = subst (λ (s : Song). IsInRange state.used s) (sym (first_state song parts state channels few none control used all silent))
       (subst (λ (n : ℕ). IsInRange n (first_song channels)) (sym used) (first_in_range channels));
 }

@@ -78,6 +78,7 @@ pub fn tick_parts(
     ensures some_frames { 1 ≤ result.frames }
     ensures few_frames { result.frames ≤ 3750 }
     ensures seats { All (λ voice. voice.channel < used) voices.new.items }
+    ensures ascend { stands.IsAscending 0 used voices.new.items }
 {
     let channels = &mut channels[..used as usize];
     seat(channels, voices.as_slice());

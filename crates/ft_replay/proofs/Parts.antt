@@ -9,11 +9,11 @@ use Rattle.ft_replay.specs.declared.state.Channel.{Channel}
 use Rattle.ft_replay.specs.declared.state.Control.{Control}
 use Rattle.ft_replay.specs.State.{Song}
 use Rattle.ft_replay.specs.Range.{IsInRange, AreInRange}
-use Rattle.ft_replay.specs.Stands.{song_of, lanes_of, seated, gathered, emptied, AllHome}
+use Rattle.ft_replay.specs.Stands.{IsAscending, song_of, lanes_of, seated, gathered, emptied, AllHome}
 use Rattle.ft_replay.specs.Tick.{seq_tick}
 use Rattle.ft_replay.proofs.Making.{channels_in_range}
 use Rattle.ft_replay.proofs.Totals.{tick_in_range}
-use Rattle.ft_replay.proofs.Seats.{gathered_state, gathered_below}
+use Rattle.ft_replay.proofs.Seats.{gathered_ascend, gathered_state, gathered_below}
 
 -- what has to be known of a tick whose voices sit in their channels
 pub record IsSeatedTick (version : ℕ) (song : Module) (rate used : ℕ) (before after : Shown) (control next : Control) (seats made old : List Channel) (items : List Voice) : Type 0 where
@@ -51,3 +51,10 @@ pub parts_seats : (version : ℕ) (song : Module) (rate used : ℕ) (before afte
 parts_seats version song rate used before after control next seats made old items out t o =
     let home = made_home version song rate used before after control next seats made old items t in
     subst (λ (n : ℕ). All (λ voice. voice.channel < n) out) (sym t.many) (subst (All (λ voice. voice.channel < length made)) (sym o) (gathered_below made home))
+
+-- and they stand in ascending channels
+pub parts_ascend : (version : ℕ) (song : Module) (rate used : ℕ) (before after : Shown) (control next : Control) (seats made old : List Channel) (items out : List Voice)
+    → IsSeatedTick version song rate used before after control next seats made old items → out ≡ gathered made → IsAscending 0 used out
+parts_ascend version song rate used before after control next seats made old items out t o =
+    let home = made_home version song rate used before after control next seats made old items t in
+    subst (λ (n : ℕ). IsAscending 0 n out) (sym t.many) (subst (λ (voices : List Voice). IsAscending 0 (length made) voices) (sym o) (gathered_ascend made home))

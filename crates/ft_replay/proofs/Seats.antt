@@ -6,7 +6,7 @@ use Rattle.std.proofs.Math.Seq.{take-append_seam}
 use Rattle.ft_types.specs.declared.voice.Voice.{Voice}
 use Rattle.ft_replay.specs.declared.state.Channel.{Channel}
 use Rattle.ft_replay.specs.State.{blank_channel}
-use Rattle.ft_replay.specs.Stands.{seated, seat_of, gathered, emptied, AllHome}
+use Rattle.ft_replay.specs.Stands.{seated, seat_of, gathered, emptied, AllHome, IsAscending}
 
 set_seam : (front rest : List Channel) (x y : Channel) → set (front ++ x ∷ rest) (length front) y ≡ front ++ y ∷ rest
 set_seam [] rest x y = refl
@@ -90,11 +90,6 @@ gathered_state channels rest n e h =
     rw (k, take-append_seam (map emptied channels) rest) (back channels h)
 
 -- ---- where gathered voices stand
-
--- ascending channels, from one on and below another
-pub IsAscending : ℕ → ℕ → List Voice → Type 0
-IsAscending low high [] = Unit {0}
-IsAscending low high (voice ∷ voices) = (low ≤ voice.channel) × (voice.channel < high) × IsAscending (voice.channel + 1) high voices
 
 ascending_from : (low more high : ℕ) (voices : List Voice) → low ≤ more → IsAscending more high voices → IsAscending low high voices
 unfolding IsAscending

@@ -1,5 +1,5 @@
 -- What the program's state stands for: its channels with what is kept for them, and its voices.
-use Rattle.std.specs.Prelude.{ℕ, ◌≡◌, ◌<◌, ◌++◌, List, [], ◌∷◌, Option, None, Some, length, get_or, set, take, option_to_list}
+use Rattle.std.specs.Prelude.{◌+◌, ◌≤◌, ℕ, ◌≡◌, ◌<◌, ◌++◌, List, [], ◌∷◌, Option, None, Some, length, get_or, set, take, option_to_list}
 use Rattle.ft_types.specs.declared.module.Module.{Module}
 use Rattle.ft_types.specs.declared.voice.Voice.{Voice}
 use Rattle.ft_types.specs.Views.{Owned, Shown, keeping}
@@ -71,3 +71,8 @@ emptied channel = record channel { voice = None }
 -- the state that a song between ticks stands for, by what a view shows
 abbrev pub state_of : SongState → Shown → Song
 state_of state shown = song_of state.control (seated (take state.used state.channels) state.voices.items) shown
+
+-- voices on ascending channels, from one on and below another, and so none twice on a channel
+unfoldable pub IsAscending : ℕ → ℕ → List Voice → Type 0
+IsAscending low high [] = Unit {0}
+IsAscending low high (voice ∷ voices) = (low ≤ voice.channel) × (voice.channel < high) × IsAscending (voice.channel + 1) high voices

@@ -7,7 +7,7 @@ use Rattle.ft_replay.specs.Range.{IsInRange}
 use Rattle.ft_replay.specs.Stands.{seated, song_of}
 use Rattle.ft_replay.specs.Tick.{seq_tick}
 use Rattle.ft_replay.proofs.Totals.{IsTicked, tick_in_range}
-use Rattle.ft_replay.proofs.Parts.{IsSeatedTick, parts_state, parts_seats}
+use Rattle.ft_replay.proofs.Parts.{IsSeatedTick, parts_state, parts_seats, parts_ascend}
 use Rattle.ft_plain.specs.Shows.{shown_of}
 use Rattle.ft_plain.proofs.play.tick_parts.Goals as goal
 use Rattle.ft_plain.proofs.play.tick_parts.Goals.{After-gather}
@@ -30,6 +30,9 @@ returns-clause-state c = parts_state _ _ _ _ _ _ _ _ _ _ _ _ _ _ _ (seated_tick 
 
 pub returns-clause-seats : goal.returns-clause-seats
 returns-clause-seats c = parts_seats _ _ _ _ _ _ _ _ _ _ _ _ _ (seated_tick c) c.gather.ensures.voices
+
+pub returns-clause-ascend : goal.returns-clause-ascend
+returns-clause-ascend c = parts_ascend _ _ _ _ _ _ _ _ _ _ _ _ _ (seated_tick c) c.gather.ensures.voices
 
 -- the tick of the state as it came
 came : (c : After-gather) → IsTicked c.args.used (seq_tick 0 c.args.view.now.song.now c.args.rate
