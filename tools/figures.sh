@@ -42,6 +42,16 @@ python3 "$work/voices.py" "$here/tools" 8 64 "$work/eight.xm"
 short=$(count step "$work/many.xm" /dev/null ledger --seconds=2)
 long=$(count step "$work/many.xm" /dev/null ledger --seconds=6)
 awk -v s="$short" -v l="$long" 'BEGIN { printf "32 voices at 44,100 Hz: %.2f instructions a frame and voice\n", (l - s) / (4 * 44100 * 32) }'
+if command -v rustc >/dev/null; then
+    rustc -O -o "$work/loop" "$here/tools/mixing_loop.rs"
+    loop_count() {
+        valgrind --tool=callgrind --callgrind-out-file="$work/callgrind" "$work/loop" "$1" 2>&1 |
+            sed -n 's/.*Collected : \([0-9]*\).*/\1/p'
+    }
+    short=$(loop_count 88200)
+    long=$(loop_count 264600)
+    awk -v s="$short" -v l="$long" 'BEGIN { printf "  the same loop in plain Rust: %.2f\n", (l - s) / (4 * 44100 * 32) }'
+fi
 echo "60 seconds of 8 voices:"
 /usr/bin/time -f '  %U s' "$program" step "$work/eight.xm" "$work/out.wav" ledger --seconds=60
 if command -v xmp >/dev/null; then
