@@ -4,10 +4,10 @@ import struct
 EMPTY = (0, 0, 0, 0, 0)
 
 
-def header(name, orders, channels, patterns, instruments, tempo=6, bpm=125, tracker=b"xmstudio"):
+def header(name, orders, channels, patterns, instruments, tempo=6, bpm=125, tracker=b"xmstudio", restart=0):
     """The 336 bytes of a header with linear periods."""
     return (b"Extended Module: " + name.ljust(20, b"\0") + b"\x1a" + tracker.ljust(20, b"\0")
-            + struct.pack("<HIHHHHHHHH", 0x0104, 276, len(orders), 0, channels, patterns, instruments, 1, tempo, bpm)
+            + struct.pack("<HIHHHHHHHH", 0x0104, 276, len(orders), restart, channels, patterns, instruments, 1, tempo, bpm)
             + bytes(orders).ljust(256, b"\0"))
 
 

@@ -1,5 +1,5 @@
 #!/usr/bin/env python3
-"""Writes a row of plain songs that reach every rule of docs/SOUND.md: varied_songs.py FOLDER COUNT"""
+"""Writes a row of varied plain songs for docs/SOUND.md's rules: varied_songs.py FOLDER COUNT"""
 import pathlib
 import sys
 
@@ -36,7 +36,8 @@ def varied(number):
     for _ in range(parts):
         frames = [draws.below(256) - 128 for _ in range([0, 1, 2, 700, 9000][draws.below(5)])]
         song += instrument(b"part", frames, draws.below(65), draws.below(256), draws.below(256) - 128, draws.below(97) - 48)
-    return header(b"varied", orders, channels, patterns, parts, 1 + draws.below(31), 32 + draws.below(224)) + song
+    tempo, bpm, restart = 1 + draws.below(31), 32 + draws.below(224), draws.below(len(orders))
+    return header(b"varied", orders, channels, patterns, parts, tempo, bpm, restart=restart) + song
 
 
 folder = pathlib.Path(sys.argv[1])

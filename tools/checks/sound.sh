@@ -1,6 +1,6 @@
 #!/usr/bin/env bash
 # The program against a slow reading of the sound's rules that was written apart from it: the
-# examples, and a row of songs that reach every rule, byte for byte.
+# examples, and twelve varied songs, byte for byte.
 set -u
 here=$(cd "$(dirname "$0")/../.." && pwd)
 work=$(mktemp -d)
