@@ -1,6 +1,6 @@
 #!/usr/bin/env bash
-# Measures the proved program: instructions a frame, memory, and time from start to finish.
-# It reports, and judges nothing. Wants valgrind and GNU time.
+# Measures the proved program: instructions a frame and a byte, memory, and time from start to
+# finish. It reports, and judges nothing. Wants valgrind and GNU time.
 set -u
 here=$(cd "$(dirname "$0")/.." && pwd)
 work=$(mktemp -d)
@@ -12,6 +12,11 @@ program=$here/crates/ft_studio/out/ft_studio
 count() {
     valgrind --tool=callgrind --callgrind-out-file="$work/callgrind" "$program" "$@" 2>&1 |
         sed -n 's/.*Collected : \([0-9]*\).*/\1/p'
+}
+
+# memory WORDS..: the most KiB that a run holds
+memory() {
+    /usr/bin/time -f %M "$program" "$@" 2>&1
 }
 
 silence=$here/examples/silence.xm
@@ -59,3 +64,24 @@ if command -v xmp >/dev/null; then
 else
     echo "  (for a comparison install the package xmp)"
 fi
+
+echo "reading a song, over a run with a song of 345 bytes:"
+mkdir "$work/large"
+python3 "$here/tools/large_songs.py" "$work/large" >"$work/large/songs"
+second() {
+    "$1" step "$work/large/$2.xm" /dev/null ledger --rate=8000 --seconds=1
+}
+count_nothing=$(second count nothing)
+memory_nothing=$(second memory nothing)
+while read -r name bytes cells frames; do
+    [ "$name" != nothing ] || continue
+    awk -v n="$name" -v b="$bytes" -v c="$cells" -v f="$frames" \
+        -v i="$(($(second count "$name") - count_nothing))" \
+        -v k="$(($(second memory "$name") - memory_nothing))" 'BEGIN {
+            printf "  %-15s %8d bytes: %5.1f instructions a byte; memory: the file", n, b, i / b
+            rest = k * 1024 - b - 5 * c
+            if (c) printf ", 5 bytes a cell"
+            if (f) printf " and %.2f bytes a frame", rest / f
+            printf "\n"
+        }'
+done <"$work/large/songs"

@@ -2,6 +2,7 @@
 
 mod build;
 mod helpers;
+mod limits;
 mod notes;
 mod outside;
 mod refusals;

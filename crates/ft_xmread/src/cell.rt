@@ -14,6 +14,15 @@ use std::alloc::Global;
 /// First bytes from here on are masks; lower ones are notes of plain cells.
 const MASK: u8 = 0x80;
 
+/// The cell of five 0 bytes, whose mask has no bits.
+pub const EMPTY: Cell = Cell {
+    note: 0,
+    instrument: 0,
+    volume: 0,
+    effect: 0,
+    parameter: 0,
+};
+
 // The bits of a mask.
 const NOTE: u8 = 1;
 
@@ -59,6 +68,9 @@ fn read_raw_cell(reader: &mut Reader) -> Result<(u8, Cell), XmFault>
     ensures { Reads (λ x. x) result reader.new (raw_cell_at reader.old) }
 {
     let first = reader.byte()?;
+    if first == MASK {
+        return Ok((first, EMPTY));
+    }
     let note = read_note(reader, first)?;
     let instrument = byte_if(reader, has(first, INSTRUMENT))?;
     let volume = byte_if(reader, has(first, VOLUME))?;

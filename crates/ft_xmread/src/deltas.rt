@@ -17,7 +17,7 @@ pub fn narrow_frames(alloc: Global, steps: &[u8]) -> Result<Vec<i16>, XmFault>
     let mut value = 0u8;
     for step in steps {
         value = value.wrapping_add(*step);
-        frames.push(frame_of(value))?;
+        frames.push_reserved(frame_of(value));
     }
     Ok(frames)
 }

@@ -6,7 +6,7 @@ ghost use Rattle.ft_format.specs.Canon.{is_empty_cell};
 ghost use Rattle.ft_xmread.specs.Reading.{Reads, times, field_at};
 ghost use Rattle.ft_xmread.specs.Pattern.{empty_cell, cell_at, pattern_head_at, cells_at, pattern_at};
 
-use crate::cell::read_cell;
+use crate::cell::{EMPTY, read_cell};
 use crate::fault::XmFault;
 use crate::reader::Reader;
 use ft_types::{Cell, Cells, Pattern};
@@ -16,14 +16,6 @@ use std::alloc::Global;
 const HEAD: u32 = 9;
 
 const MOST_ROWS: u16 = 256;
-
-const EMPTY: Cell = Cell {
-    note: 0,
-    instrument: 0,
-    volume: 0,
-    effect: 0,
-    parameter: 0,
-};
 
 /// The head of a pattern, 9 bytes; its packing is the one known.
 #[derive(Clone, Copy, Debug)]
@@ -60,6 +52,7 @@ fn read_pattern_head(reader: &mut Reader, number: u16) -> Result<PatternHead, Xm
 }
 
 /// As many cells, one after the other.
+#[inline(never)]
 fn read_cells_in(
     alloc: Global,
     reader: &mut Reader,
@@ -71,7 +64,7 @@ fn read_cells_in(
     let mut cells = Vec::with_capacity(alloc, count)?;
     for _ in 0..count {
         let cell = read_cell(reader, number)?;
-        cells.push(cell)?;
+        cells.push_reserved(cell);
     }
     Ok(cells)
 }

@@ -1,4 +1,4 @@
-//! Building the files of plain songs of one channel.
+//! Building the files of plain songs.
 
 use std::alloc::{AllocError, Global};
 
@@ -9,11 +9,12 @@ pub struct Head<'a> {
     pub restart: u8,
     pub tempo: u8,
     pub bpm: u8,
-    pub patterns: u8,
+    pub channels: u8,
+    pub patterns: u16,
     pub instruments: u8,
 }
 
-/// The header of a song of one channel, with linear periods.
+/// The header of a song with linear periods.
 pub fn header(alloc: Global, head: Head) -> Result<Vec<u8>, AllocError> {
     let mut song = Vec::new(alloc);
     song.extend_from_slice(b"Extended Module: ")?;
@@ -22,8 +23,9 @@ pub fn header(alloc: Global, head: Head) -> Result<Vec<u8>, AllocError> {
     song.extend_from_slice(&[0; 20])?;
     song.extend_from_slice(&[4, 1, 20, 1, 0, 0])?;
     let length = u8::try_from(head.orders.len()).unwrap_or(0);
-    song.extend_from_slice(&[length, 0, head.restart, 0, 1, 0])?;
-    song.extend_from_slice(&[head.patterns, 0, head.instruments, 0, 1, 0])?;
+    song.extend_from_slice(&[length, 0, head.restart, 0, head.channels, 0])?;
+    song.extend_from_slice(&head.patterns.to_le_bytes())?;
+    song.extend_from_slice(&[head.instruments, 0, 1, 0])?;
     song.extend_from_slice(&[head.tempo, 0, head.bpm, 0])?;
     song.extend_from_slice(head.orders)?;
     for _ in head.orders.len()..256 {
@@ -56,7 +58,7 @@ pub fn pattern(alloc: Global, rows: &[(u8, u8)]) -> Result<Vec<u8>, AllocError> 
 /// An instrument of one sample at full volume, whose frames are all 64.
 pub fn instrument(
     alloc: Global,
-    frames: u16,
+    frames: u32,
     map: u8,
     relative: u8,
 ) -> Result<Vec<u8>, AllocError> {
@@ -66,7 +68,7 @@ pub fn instrument(
     part.extend_from_slice(&[map; 96])?;
     part.extend_from_slice(&[0; 134])?;
     part.extend_from_slice(&frames.to_le_bytes())?;
-    part.extend_from_slice(&[0, 0, 0, 0, 0, 0, 0, 0, 0, 0])?;
+    part.extend_from_slice(&[0, 0, 0, 0, 0, 0, 0, 0])?;
     part.extend_from_slice(&[64, 0, 0, 128, relative, 0])?;
     part.extend_from_slice(&[0; 22])?;
     for frame in 0..frames {

@@ -13,6 +13,7 @@ const FAST: Head = Head {
     restart: 0,
     tempo: 1,
     bpm: 255,
+    channels: 1,
     patterns: 1,
     instruments: 1,
 };
@@ -23,6 +24,7 @@ const SLOW: Head = Head {
     restart: 0,
     tempo: 6,
     bpm: 125,
+    channels: 1,
     patterns: 1,
     instruments: 2,
 };

@@ -9,7 +9,7 @@ use Rattle.ft_xmread.proofs.deltas.narrow_frames.Goals as goal
 
 pub loop-step-init : goal.loop-step-init
 unfolding narrow_frames
-loop-step-init c = rw c.in_ok-frames.ensures.items refl
+loop-step-init c = (rw c.in_ok-frames.ensures.items refl, search rules, search rules)
 
 pub loop-step-preserved : goal.loop-step-preserved
 loop-step-preserved c =
@@ -18,4 +18,8 @@ loop-step-preserved c =
     let value = (c.loop-step.value + get_or steps i 0) % 256 in
     let fits : FitsSigned w16 c.frame_of.result = search rules in
     let pushed : cast_signed w16 (of_z w16 c.frame_of.result) ≡ cast_signed w8 value = to_z-of_z w16 c.frame_of.result fits ∙ c.frame_of.ensures in
-    rw (c.in_ok-push.ensures.items, pushed) (next_frame steps i c.loop-step.value value c.loop-step.frames.items (narrow_frames steps) c.loop-step-test.true refl c.loop-step.invariant)
+    (
+        rw (c.push_reserved.ensures.items, pushed) (next_frame steps i c.loop-step.value value c.loop-step.frames.items (narrow_frames steps) c.loop-step-test.true refl c.loop-step.invariant.0),
+        search rules,
+        search rules,
+    )
