@@ -1,3 +1,4 @@
 pub mod Valid
 pub mod Plain
 pub mod Views
+pub mod Blocks

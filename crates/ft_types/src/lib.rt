@@ -3,25 +3,32 @@
 //!
 //! A module is a plain value. Its lists are `Items`, which contracts see as the
 //! list of their elements. Which modules are valid, and which are plain, is
-//! defined in `specs/`.
+//! defined in `specs/`: `valid` and `is_plain` answer it, and `blocks` says how
+//! many blocks a valid module takes. None of the three takes memory.
 #![tactic(auto)]
 
+mod block_count;
 mod instrument;
 mod items;
 mod module;
 mod no_memory;
 mod pattern;
+mod plain;
 mod sample;
 mod steps;
+mod validity;
 mod voice;
 
+pub use block_count::blocks;
 pub use instrument::{Envelope, Instrument, Instruments, Point, Vibrato};
 pub use items::Items;
 pub use module::{Module, Orders};
 pub use no_memory::NoMemory;
 pub use pattern::{Cell, Cells, Pattern, Patterns};
+pub use plain::is_plain;
 pub use sample::{Frames, Sample, Samples};
 pub use steps::Steps;
+pub use validity::valid;
 pub use voice::{SampleHead, Voice};
 
 #[cfg(test)]
