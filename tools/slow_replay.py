@@ -1,63 +1,20 @@
 #!/usr/bin/env python3
-"""A slow reading of docs/SOUND.md and docs/FORMAT.md, written apart from the program.
+"""A slow reading of docs/SOUND.md, written apart from the program; slow_reader.py reads the song.
 
     slow_replay.py SONG RATE SECONDS    writes the WAV file of a plain song to standard output
 """
 import struct
 import sys
 
+from slow_reader import EMPTY, Pattern, is_plain, read
+
 TWELFTHS = [65536, 69433, 73562, 77936, 82570, 87480, 92682, 98193, 104032, 110218, 116772, 123715, 131072]
 
 
-class Song:
-    def __init__(self, file):
-        length, self.restart, self.channels, patterns, instruments, _, self.tempo, self.bpm = struct.unpack_from("<8H", file, 64)
-        self.orders = list(file[80:80 + length])
-        self.at = 336
-        self.file = file
-        self.patterns = [self.pattern() for _ in range(patterns)]
-        self.instruments = [self.instrument() for _ in range(instruments)]
-
-    def take(self, layout):
-        values = struct.unpack_from(layout, self.file, self.at)
-        self.at += struct.calcsize(layout)
-        return values
-
-    def pattern(self):
-        _, _, rows, size = self.take("<IBHH")
-        cells = []
-        while size and len(cells) < rows * self.channels:
-            (first,) = self.take("<B")
-            if first < 0x80:
-                cells.append((first,) + self.take("<4B"))
-            else:
-                cells.append(tuple(self.take("<B")[0] if first >> bit & 1 else 0 for bit in range(5)))
-        return rows, cells or [(0,) * 5] * (rows * self.channels)
-
-    def instrument(self):
-        start = self.at
-        size, _, _, samples = self.take("<I22sBH")
-        note_map = self.file[start + 33:start + 129]
-        self.at = start + size
-        heads = [self.take("<IIIBbBBbB22s") for _ in range(samples)]
-        return note_map, [(head, self.frames(head[0])) for head in heads]
-
-    def frames(self, count):
-        now, frames = 0, []
-        for (step,) in (self.take("<B") for _ in range(count)):
-            now = (now + step) % 256
-            frames.append(now - 256 if now > 127 else now)
-        return frames
-
-    def rows_at(self, order):
-        number = self.orders[order]
-        return self.patterns[number][0] if number < len(self.patterns) else 64
-
-    def cell(self, order, row, channel):
-        number = self.orders[order]
-        if number >= len(self.patterns):
-            return (0,) * 5
-        return self.patterns[number][1][row * self.channels + channel]
+def pattern_at(song, order):
+    """The pattern at an order position; one that isn't stored is 64 empty rows."""
+    number = song.orders[order]
+    return song.patterns[number] if number < len(song.patterns) else Pattern(64, [EMPTY] * (64 * song.channels))
 
 
 class Channel:
@@ -74,7 +31,7 @@ class Channel:
         if (note and self.voice) or instrument:
             self.fade = 32768
         if instrument and self.voice:
-            self.vol, self.pan = self.head[3], self.head[6]
+            self.vol, self.pan = self.head.volume, self.head.panning
         if 0x10 <= volume <= 0x50:
             self.vol = volume - 0x10
 
@@ -82,16 +39,16 @@ class Channel:
         self.voice = None
         if not 1 <= self.instrument <= len(song.instruments):
             return
-        note_map, samples = song.instruments[self.instrument - 1]
-        number = note_map[note - 1]
-        if number >= len(samples):
+        instrument = song.instruments[self.instrument - 1]
+        number = instrument.map[note - 1]
+        if number >= len(instrument.samples):
             return
-        head, frames = samples[number]
-        played = note - 1 + head[7]
-        if frames and 0 <= played <= 118:
+        head = instrument.samples[number]
+        played = note - 1 + head.relative
+        if head.frames and 0 <= played <= 118:
             self.head = head
-            self.period = 7680 - 64 * played - head[4] // 2
-            self.voice = [frames, 0, 0, 0, 0]
+            self.period = 7680 - 64 * played - head.finetune // 2
+            self.voice = [head.frames, 0, 0, 0, 0]
 
     def hear(self, rate):
         if self.voice:
@@ -125,10 +82,11 @@ def play(song, rate, count):
         if tick == 0:
             if order >= len(song.orders):
                 order, row = song.restart, 0
-            if row >= song.rows_at(order):
+            if row >= pattern_at(song, order).rows:
                 order, row = (order + 1 if order + 1 < len(song.orders) else song.restart), 0
-            for number, channel in enumerate(channels):
-                channel.start_row(song, song.cell(order, row, number))
+            cells = pattern_at(song, order).cells[row * song.channels:]
+            for channel, cell in zip(channels, cells):
+                channel.start_row(song, cell)
         for channel in channels:
             channel.hear(rate)
         frames, carry = divmod(5 * rate + carry, 2 * song.bpm)
@@ -158,6 +116,8 @@ def wav(rate, frames):
 
 if __name__ == "__main__":
     with open(sys.argv[1], "rb") as file:
-        song = Song(file.read())
+        song = read(file.read())
+    if not is_plain(song):
+        sys.exit("not yet")
     rate = int(sys.argv[2])
     sys.stdout.buffer.write(wav(rate, play(song, rate, rate * int(sys.argv[3]))))

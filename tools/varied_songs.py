@@ -40,6 +40,7 @@ def varied(number):
     return header(b"varied", orders, channels, patterns, parts, tempo, bpm, restart=restart) + song
 
 
-folder = pathlib.Path(sys.argv[1])
-for number in range(int(sys.argv[2])):
-    (folder / f"varied{number}.xm").write_bytes(varied(number))
+if __name__ == "__main__":
+    folder = pathlib.Path(sys.argv[1])
+    for number in range(int(sys.argv[2])):
+        (folder / f"varied{number}.xm").write_bytes(varied(number))

@@ -60,7 +60,7 @@ expect 4 'xmstudio: song could not be read' step "$work" out.wav out.ledger
 absent out.wav
 
 : >empty.xm
-expect 3 'xmstudio: song refused: fault 10' step empty.xm out.wav out.ledger
+expect 3 'xmstudio: song refused: fault 3 0 17' step empty.xm out.wav out.ledger
 absent out.wav
 { printf 'X'; tail -c +2 "$silence"; } >other.xm
 expect 3 'xmstudio: song refused: fault 1 0' step other.xm out.wav out.ledger

@@ -1,18 +1,18 @@
 -- What a run of `step` writes.
-use Rattle.std.specs.Prelude.{◌≡◌, ℕ, ◌*◌, ℤ, List, Option, Some, String, IfSome}
+use Rattle.std.specs.Prelude.{◌≡◌, ℕ, ◌*◌, ℤ, List, Option, Some, Result, Ok, Err, String, IfSome}
 use Rattle.std.specs.declared.alloc.Global.{Global}
 use Rattle.ft_types.specs.declared.module.Module.{Module}
 use Rattle.ft_types.specs.Valid.{IsValid}
 use Rattle.ft_types.specs.Plain.{IsPlain}
+use Rattle.ft_format.specs.Spelling.{Spells}
 use Rattle.ft_replay.specs.Replay.{Renders}
 use Rattle.ft_out.specs.Wav.{wav_bytes}
 use Rattle.ft_xmread.specs.declared.fault.XmFault.{XmFault}
 use Rattle.ft_xmread.specs.declared.fault.XmFault.TheVariants as faults
-use Rattle.ft_xmread.specs.Song.{IsSongOf}
 use Rattle.ft_studio.specs.declared.words.Step.{Step}
 use Rattle.ft_studio.specs.declared.status.Status.{Status}
 use Rattle.ft_studio.specs.declared.status.Status.TheVariants.{Done, Song, SongRead, WavWrite, LedgerWrite, PoolSmall, NoMemory, HandEnded}
-use Rattle.ft_studio.specs.declared.status.SongFault.TheVariants.{Xm, TooBig}
+use Rattle.ft_studio.specs.declared.status.SongFault.TheVariants.{Xm, NotYet, TooBig}
 use Rattle.ft_studio.specs.Words.{step_of}
 
 -- the frames of so many seconds
@@ -32,7 +32,7 @@ pub record IsOutput (words : List (String Global)) (held : Option (List ℕ)) (b
   pub song : Module
   pub valid : IsValid song
   pub plain : IsPlain song
-  pub told : IfSome held (λ file. IsSongOf file song)
+  pub told : IfSome held (λ file. Spells file song)
   pub wav : IsWavOf song step bytes
 
 -- ---- statuses
@@ -50,6 +50,11 @@ IsAccepted WavWrite = Unit {0}
 IsAccepted SongRead = Unit {0}
 IsAccepted NoMemory = Unit {0}
 IsAccepted status = ⊥
+
+-- what was read is this song, unless it could not be read, or memory was wanting
+abbrev pub IsReadAs : Result Module Status → Module → Type 0
+IsReadAs (Ok read) song = read ≡ song
+IsReadAs (Err status) song = IsAccepted status
 
 -- those of a song that isn't read
 abbrev pub IsUnread : Status → Type 0
@@ -76,6 +81,13 @@ RefusesBig (Song TooBig) = Unit {0}
 RefusesBig SongRead = Unit {0}
 RefusesBig NoMemory = Unit {0}
 RefusesBig status = ⊥
+
+-- the song isn't played yet, unless it could not be read, or memory was wanting
+abbrev pub RefusesLater : Status → Type 0
+RefusesLater (Song NotYet) = Unit {0}
+RefusesLater SongRead = Unit {0}
+RefusesLater NoMemory = Unit {0}
+RefusesLater status = ⊥
 
 -- the statuses that `step` has so far
 abbrev pub IsOfStep : Status → Type 0

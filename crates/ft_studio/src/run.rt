@@ -6,9 +6,11 @@ ghost use Rattle.ft_types.specs.declared.module.Module.{Module as Song};
 ghost use Rattle.ft_outer.specs.Counts.{Rose};
 ghost use Rattle.ft_outer.specs.Pieces.{TakesFront};
 ghost use Rattle.ft_xmread.specs.declared.fault.XmFault.{XmFault as Fault};
-ghost use Rattle.ft_xmread.specs.Song.{IsSongOf, HasFault};
+ghost use Rattle.ft_types.specs.Plain.{IsPlain};
+ghost use Rattle.ft_format.specs.Spelling.{Spells};
+ghost use Rattle.ft_xmread.specs.Song.{HasFault};
 ghost use Rattle.ft_studio.specs.Words.{step_of};
-ghost use Rattle.ft_studio.specs.Run.{IsOutput, IsBeforePlay, IsAccepted, Refuses, RefusesBig, IsOfStep};
+ghost use Rattle.ft_studio.specs.Run.{IsOutput, IsBeforePlay, IsAccepted, Refuses, RefusesBig, RefusesLater, IsOfStep};
 
 use crate::play::play;
 use crate::song::read_song;
@@ -51,9 +53,15 @@ pub fn run_plain<S: Source, W: Sink, L: Sink>(
     ensures refused { (file : List ℕ) (fault : Fault) → S.left song.old ≡ Some file → IsSome (step_of words.now)
         → length file ≤ 67108864 → HasFault file fault → Refuses result fault }
 
+    // A song that the bytes spell isn't played yet exactly where it isn't plain.
+    ensures not_yet { (file : List ℕ) → S.left song.old ≡ Some file → result ≡ Status.Song SongFault.NotYet
+        → (a_song : Song) × Spells file a_song × (IsPlain a_song → ⊥) }
+    ensures not_plain { (file : List ℕ) (a_song : Song) → S.left song.old ≡ Some file → IsSome (step_of words.now)
+        → length file ≤ 67108864 → Spells file a_song → (IsPlain a_song → ⊥) → RefusesLater result }
+
     // What is accepted is played to its end, unless a fault was counted or memory was wanting.
     ensures accepted { (file : List ℕ) (a_song : Song) → S.left song.old ≡ Some file → IsSome (step_of words.now)
-        → length file ≤ 67108864 → IsSongOf file a_song → IsAccepted result }
+        → length file ≤ 67108864 → Spells file a_song → IsPlain a_song → IsAccepted result }
     ensures done { result ≡ Status.Done → (bytes : List ℕ) × IsOutput words.now (S.left song.old) bytes
         × Appends (W.held wav.old) (W.held wav.new) bytes }
     ensures done_counts { result ≡ Status.Done → (S.faults song.new ≡ S.faults song.old) × (W.faults wav.new ≡ W.faults wav.old) }

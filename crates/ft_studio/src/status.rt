@@ -11,6 +11,8 @@ use std::fmt;
 pub enum SongFault {
     /// Its bytes have this fault, which is never want of memory.
     Xm(XmFault),
+    /// Its bytes spell a song that isn't plain, and only plain songs are played so far.
+    NotYet,
     /// It has more than 67,108,864 bytes.
     TooBig,
 }
@@ -84,6 +86,7 @@ const USAGE: &str =
 impl fmt::Display for SongFault {
     fn fmt<W: fmt::Write>(&self, f: &mut fmt::Formatter<W>) -> fmt::Result {
         match self {
+            SongFault::NotYet => write!(f, "not yet"),
             SongFault::TooBig => write!(f, "too big"),
             SongFault::Xm(fault) => write_fault(f, fault),
         }
@@ -106,6 +109,5 @@ fn write_fault<W: fmt::Write>(f: &mut fmt::Formatter<W>, fault: &XmFault) -> fmt
             frames,
         } => write!(f, "fault 8 {instrument} {sample} {frames}"),
         XmFault::NoMemory => write!(f, "fault 9"),
-        XmFault::NotYet => write!(f, "fault 10"),
     }
 }

@@ -1,6 +1,6 @@
 -- The two laws of a part: what is spelled so is read, and what is read is spelled so. They hold
 -- of each part that is made of lawful parts.
-use Rattle.std.proofs.Common.{◌≡◌, ℕ, ◌+◌, ◌^◌, ◌<◌, ◌≤◌, Bool, true, false, cond, ltb, inl, inr, List, [], ◌∷◌, ◌++◌, length, get_or, take, drop, Result, Ok, Err, refl, sym, ap, subst, ◌∙◌, append_assoc, arith}
+use Rattle.std.proofs.Common.{◌≡◌, ℕ, ◌+◌, ◌^◌, ◌<◌, ◌≤◌, Bool, true, false, cond, ltb, inl, inr, List, [], ◌∷◌, ◌++◌, length, take, drop, Result, Ok, Err, refl, sym, ap, subst, ◌∙◌, append_assoc, arith}
 use Rattle.std.proofs.lemmas.Bool.{ltb-false, le-ltb, cases_lt}
 use Rattle.std.proofs.lemmas.List.{append-nil, length-append, get_or-drop, get_or-take, get_or_past, length-take, take-append-drop}
 use Rattle.std.proofs.lemmas.Nat.{le_bytes_2, le_bytes_4}
@@ -11,19 +11,17 @@ use Rattle.std.specs.List.{flat_map}
 use Rattle.std.proofs.Common.{All, zero, suc}
 use Rattle.std.proofs.lemmas.List.Elements.{All-head, All-tail, All-nil, All-cons}
 use Rattle.ft_format.specs.Canon.{byte}
+use Rattle.ft_format.specs.Fields.{IsNumber, AreBytes, IsField, AllFit, FitsWithin, byte_if_text, IsByteIf}
 use Rattle.ft_xmread.specs.declared.fault.XmFault.{XmFault}
 use Rattle.ft_xmread.specs.declared.fault.XmFault.TheVariants.{Count}
 use Rattle.std.specs.Prelude.{nat_lt}
 use Rattle.ft_xmread.specs.Reading.{Place, Reading, ◌>>=◌, field_at, number_at, both, checked, seen, count_at, byte_if, piece_at, within, times}
 
-abbrev pub IsBytes : List ℕ → Type 0
-IsBytes bytes = (i : ℕ) → get_or bytes i 0 < 256
+pub AreBytes-drop : (n : ℕ) (bytes : List ℕ) → AreBytes bytes → AreBytes (drop n bytes)
+AreBytes-drop n bytes h i = rw get_or-drop (h (n + i))
 
-pub IsBytes-drop : (n : ℕ) (bytes : List ℕ) → IsBytes bytes → IsBytes (drop n bytes)
-IsBytes-drop n bytes h i = rw get_or-drop (h (n + i))
-
-pub IsBytes-take : (n : ℕ) (bytes : List ℕ) → IsBytes bytes → IsBytes (take n bytes)
-IsBytes-take n bytes h i =
+pub AreBytes-take : (n : ℕ) (bytes : List ℕ) → AreBytes bytes → AreBytes (take n bytes)
+AreBytes-take n bytes h i =
     elim (cases_lt i n) [
       | inl lt ↦ rw (get_or-take n bytes i 0 lt) (h i)
       | inr le ↦ rw (get_or_past (take n bytes) i 0 (omega (arith, length-take n bytes))) (omega arith)
@@ -33,11 +31,11 @@ IsBytes-take n bytes h i =
 pub record Takes {A : Type 0} (text : A → List ℕ) (Fits : A → Type 0) (p : Place) (x : A × Place) : Type 0 where
   pub fits : Fits x.0
   pub parts : p.left ≡ text x.0 ++ x.1.left
-  pub bytes : IsBytes x.1.left
+  pub bytes : AreBytes x.1.left
 
 pub record Lawful {A : Type 0} (one : Reading A) (text : A → List ℕ) (Fits : A → Type 0) : Type 0 where
   pub again : (at : ℕ) (x : A) (rest : List ℕ) → Fits x → one (record { at = at; left = text x ++ rest }) ≡ Ok (x, record { at = at + length (text x); left = rest })
-  pub takes : (p : Place) (x : A × Place) → IsBytes p.left → one p ≡ Ok x → Takes text Fits p x
+  pub takes : (p : Place) (x : A × Place) → AreBytes p.left → one p ≡ Ok x → Takes text Fits p x
 
 -- ---- tools
 
@@ -57,10 +55,6 @@ ok_is x y e = cc
 
 -- ---- fields and numbers
 
--- as many bytes
-abbrev pub IsField : ℕ → List ℕ → Type 0
-IsField n bytes = (length bytes ≡ n) × IsBytes bytes
-
 field_front : (at : ℕ) (piece rest : List ℕ) → field_at (length piece) (record { at = at; left = piece ++ rest }) ≡ Ok (piece, record { at = at + length piece; left = rest })
 unfolding field_at
 field_front at piece rest =
@@ -71,16 +65,16 @@ pub field_again : (at : ℕ) (piece rest : List ℕ) (n : ℕ) → length piece 
 field_again at piece rest n len =
     subst (λ (k : ℕ). field_at k (record { at = at; left = piece ++ rest }) ≡ Ok (piece, record { at = at + length piece; left = rest })) len (field_front at piece rest)
 
-field_takes : (n : ℕ) (p : Place) (x : List ℕ × Place) → IsBytes p.left → field_at n p ≡ Ok x → Takes (λ (l : List ℕ). l) (IsField n) p x
+field_takes : (n : ℕ) (p : Place) (x : List ℕ × Place) → AreBytes p.left → field_at n p ≡ Ok x → Takes (λ (l : List ℕ). l) (IsField n) p x
 unfolding field_at
 field_takes n p x fits e =
     let g = passed _ _ _ x e in
     let long : n ≤ length p.left = ltb-false _ _ g.0 in
     subst (λ (y : List ℕ × Place). Takes (λ (l : List ℕ). l) (IsField n) p y) (ok_is (take n p.left, record { at = p.at + n; left = drop n p.left }) x g.1)
     (record {
-      fits = (omega (arith, length-take n p.left), IsBytes-take n p.left fits);
+      fits = (omega (arith, length-take n p.left), AreBytes-take n p.left fits);
       parts = sym (take-append-drop n p.left);
-      bytes = IsBytes-drop n p.left fits;
+      bytes = AreBytes-drop n p.left fits;
     })
 
 pub field_law : (n : ℕ) → Lawful (field_at n) (λ (l : List ℕ). l) (IsField n)
@@ -91,7 +85,7 @@ field_law n = record {
 
 -- the bytes of a number that n bytes gave are these bytes
 abbrev pub GivesBack : ℕ → Type 0
-GivesBack n = (bytes : List ℕ) → length bytes ≡ n → IsBytes bytes → little_bytes n (little_number n bytes) ≡ bytes
+GivesBack n = (bytes : List ℕ) → length bytes ≡ n → AreBytes bytes → little_bytes n (little_number n bytes) ≡ bytes
 
 pub back_1 : GivesBack 1
 back_1 [] len fits = absurd (omega arith)
@@ -107,15 +101,11 @@ back_4 bytes len fits = le_bytes_4 bytes (little_number 4 bytes) len fits (omega
 reads_back : (n v : ℕ) → v < 256 ^ n → little_number n (little_bytes n v) ≡ v
 reads_back n v lt = ap (little_number n) (sym (append-nil (little_bytes n v))) ∙ little_number-reads_back n v [] lt
 
--- a number of so many bytes
-abbrev pub IsNumber : ℕ → ℕ → Type 0
-IsNumber n v = v < 256 ^ n
-
 number_again : (n at v : ℕ) (rest : List ℕ) → v < 256 ^ n → number_at n (record { at = at; left = little_bytes n v ++ rest }) ≡ Ok (v, record { at = at + length (little_bytes n v); left = rest })
 unfolding number_at
 number_again n at v rest lt = rw (field_again at (little_bytes n v) rest n (length-bytes_low_first 0 n v), reads_back n v lt) refl
 
-number_takes : (n : ℕ) (p : Place) (x : ℕ × Place) → GivesBack n → IsBytes p.left → number_at n p ≡ Ok x → Takes (little_bytes n) (IsNumber n) p x
+number_takes : (n : ℕ) (p : Place) (x : ℕ × Place) → GivesBack n → AreBytes p.left → number_at n p ≡ Ok x → Takes (little_bytes n) (IsNumber n) p x
 unfolding number_at
 number_takes n p x back fits e =
     let a = bind_ok (field_at n p) (λ f. Ok (little_number n f.0, f.1)) x e in
@@ -153,7 +143,7 @@ both_again {A = A} {B = B} one other t u F G law laws at a b rest f g =
 
 both_takes : {A B : Type 0} (one : Reading A) (other : A → Reading B) (t : A → List ℕ) (u : A → B → List ℕ) (F : A → Type 0) (G : A → B → Type 0)
     → Lawful one t F → ((a : A) → F a → Lawful (other a) (u a) (G a))
-    → (p : Place) (x : (A × B) × Place) → IsBytes p.left → both one other p ≡ Ok x → Takes (both_text t u) (BothFit F G) p x
+    → (p : Place) (x : (A × B) × Place) → AreBytes p.left → both one other p ≡ Ok x → Takes (both_text t u) (BothFit F G) p x
 both_takes {A = A} {B = B} one other t u F G law laws p x bytes e =
     let a = bind_ok (one p) _ x e in
     let s = law.takes p a.0 bytes a.1 in
@@ -180,7 +170,7 @@ abbrev pub Passes : {A : Type 0} → (A → Type 0) → (A → Bool) → A → T
 Passes F is_bad x = F x × (is_bad x ≡ false)
 
 checked_takes : {A : Type 0} (is_bad : A → Bool) (fault : ℕ → A → XmFault) (one : Reading A) (t : A → List ℕ) (F : A → Type 0) → Lawful one t F
-    → (p : Place) (x : A × Place) → IsBytes p.left → checked is_bad fault one p ≡ Ok x → Takes t (Passes F is_bad) p x
+    → (p : Place) (x : A × Place) → AreBytes p.left → checked is_bad fault one p ≡ Ok x → Takes t (Passes F is_bad) p x
 checked_takes {A = A} is_bad fault one t F law p x bytes e =
     let a = bind_ok (one p) _ x e in
     let s = law.takes p a.0 bytes a.1 in
@@ -209,7 +199,7 @@ seen_again : {A B : Type 0} (view : A → B) (one : Reading A) (t : A → List �
 seen_again view one t F law at x y text rest f v e = rw (sym e, sym v) (rw (law.again at x rest f) refl)
 
 seen_takes : {A B : Type 0} (view : A → B) (one : Reading A) (t : A → List ℕ) (F : A → Type 0) (u : B → List ℕ) (G : B → Type 0) → Lawful one t F → IsSeen view t F u G
-    → (p : Place) (y : B × Place) → IsBytes p.left → seen view one p ≡ Ok y → Takes u G p y
+    → (p : Place) (y : B × Place) → AreBytes p.left → seen view one p ≡ Ok y → Takes u G p y
 seen_takes {A = A} {B = B} view one t F u G law is_seen p y bytes e =
     let a = bind_ok (one p) _ y e in
     let s = law.takes p a.0 bytes a.1 in
@@ -225,15 +215,11 @@ seen_law view back one t F u G law is_seen is_view = record {
   takes = λ p y bytes e. seen_takes view one t F u G law is_seen p y bytes e;
 }
 
--- each value that fits is the view of one that fits
-abbrev pub IsImage : {A B : Type 0} → (A → B) → (A → Type 0) → (B → Type 0) → Type 0
-IsImage {A = A} {B = B} view F G = (y : B) → G y → (x : A) × F x × (view x ≡ y)
-
-pub image_law : {A B : Type 0} (view : A → B) (one : Reading A) (t : A → List ℕ) (F : A → Type 0) (u : B → List ℕ) (G : B → Type 0)
-    → Lawful one t F → IsSeen view t F u G → IsImage view F G → Lawful (seen view one) u G
-image_law view one t F u G law is_seen is_image = record {
-  again = λ at y rest fits. let v = is_image y fits in seen_again view one t F law at v.0 y (u y) rest v.1 v.2 ((is_seen v.0 v.1).1 ∙ ap u v.2);
-  takes = λ p y bytes e. seen_takes view one t F u G law is_seen p y bytes e;
+-- values that fit by another name
+pub refit_law : {A : Type 0} (one : Reading A) (t : A → List ℕ) (F G : A → Type 0) → Lawful one t F → ((x : A) → F x → G x) → ((x : A) → G x → F x) → Lawful one t G
+refit_law one t F G law there back = record {
+  again = λ at x rest fits. law.again at x rest (back x fits);
+  takes = λ p x bytes e. let s = law.takes p x bytes e in record { fits = there x.0 s.fits; parts = s.parts; bytes = s.bytes };
 }
 
 -- ---- more forms
@@ -283,15 +269,7 @@ count_law most = checked_law (nat_lt most) Count (number_at 2) (little_bytes 2) 
 
 -- ---- a byte that may be left out
 
-abbrev pub byte_if_text : Bool → ℕ → List ℕ
-byte_if_text true x = byte x
-byte_if_text false x = []
-
-abbrev pub IsByteIf : Bool → ℕ → Type 0
-IsByteIf true x = IsNumber 1 x
-IsByteIf false x = x ≡ 0
-
-none_takes : (p : Place) (x : ℕ × Place) → IsBytes p.left → byte_if false p ≡ Ok x → Takes (byte_if_text false) (IsByteIf false) p x
+none_takes : (p : Place) (x : ℕ × Place) → AreBytes p.left → byte_if false p ≡ Ok x → Takes (byte_if_text false) (IsByteIf false) p x
 none_takes p x bytes e =
     let made : ℕ × Place = (0, p) in
     subst (λ (y : ℕ × Place). Takes (byte_if_text false) (IsByteIf false) p y) (ok_is made x e)
@@ -312,13 +290,8 @@ byte_if_law false = record {
 abbrev pub within_text : {A : Type 0} → (A → List ℕ) → A × List ℕ → List ℕ
 within_text t x = t x.0 ++ x.1
 
-pub record FitsWithin {A : Type 0} (n : ℕ) (t : A → List ℕ) (F : A → Type 0) (x : A × List ℕ) : Type 0 where
-  pub fits : F x.0
-  pub whole : length (t x.0 ++ x.1) ≡ n
-  pub bytes : IsBytes x.1
-
 within_takes : {A : Type 0} (n : ℕ) (one : Reading A) (t : A → List ℕ) (F : A → Type 0) → Lawful one t F
-    → (p : Place) (x : (A × List ℕ) × Place) → IsBytes p.left → within n one p ≡ Ok x → Takes (within_text t) (FitsWithin n t F) p x
+    → (p : Place) (x : (A × List ℕ) × Place) → AreBytes p.left → within n one p ≡ Ok x → Takes (within_text t) (FitsWithin n t F) p x
 unfolding piece_at
 within_takes {A = A} n one t F law p x bytes e =
     let g = bind_ok (piece_at n p) _ x e in
@@ -346,10 +319,6 @@ within_law n one t F law = record {
 
 -- ---- a part many times
 
-pub record AllFit {A : Type 0} (n : ℕ) (F : A → Type 0) (xs : List A) : Type 0 where
-  pub count : length xs ≡ n
-  pub each : All F xs
-
 times_again : {A : Type 0} (one : ℕ → Reading A) (t : A → List ℕ) (F : A → Type 0) → ((k : ℕ) → Lawful (one k) t F)
     → (first at : ℕ) (xs : List A) (rest : List ℕ) → All F xs
     → times one first (length xs) (record { at = at; left = flat_map t xs ++ rest }) ≡ Ok (xs, record { at = at + length (flat_map t xs); left = rest })
@@ -361,7 +330,7 @@ times_again one t F law first at (x ∷ xs) rest all =
     ∙ rw ((law first).again at x (flat_map t xs ++ rest) (All-head F x xs all), times_again one t F law (suc first) (at + length (t x)) xs rest (All-tail F x xs all), n) refl
 
 times_takes : {A : Type 0} (one : ℕ → Reading A) (t : A → List ℕ) (F : A → Type 0) → ((k : ℕ) → Lawful (one k) t F)
-    → (first n : ℕ) (p : Place) (x : List A × Place) → IsBytes p.left → times one first n p ≡ Ok x → Takes (flat_map t) (AllFit n F) p x
+    → (first n : ℕ) (p : Place) (x : List A × Place) → AreBytes p.left → times one first n p ≡ Ok x → Takes (flat_map t) (AllFit n F) p x
 unfolding times
 times_takes {A = A} one t F law first zero p x bytes e =
     let made : List A × Place = ([], p) in

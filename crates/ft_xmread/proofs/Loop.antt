@@ -9,7 +9,7 @@ use Rattle.ft_xmread.specs.Reading.{Place, Reading, ◌>>=◌, Fails, times}
 abbrev pub with_front : {A : Type 0} → List A → Result (List A × Place) XmFault → Result (List A × Place) XmFault
 with_front front read = read >>= λ x. Ok (front ++ x.0, x.1)
 
-regroup : {A : Type 0} (front : List A) (x : A) (read : Result (List A × Place) XmFault) → with_front front (read >>= λ y. Ok (x ∷ y.0, y.1)) ≡ with_front (front ++ x ∷ []) read
+pub regroup : {A : Type 0} (front : List A) (x : A) (read : Result (List A × Place) XmFault) → with_front front (read >>= λ y. Ok (x ∷ y.0, y.1)) ≡ with_front (front ++ x ∷ []) read
 regroup {A = A} front x (Ok y) = ap (λ (xs : List A). Ok (xs, y.1)) (simp append_assoc)
 regroup front x (Err f) = refl
 
@@ -48,4 +48,3 @@ fails_on one (faults.Packing pattern found) front count i p total lt h so_far = 
 fails_on one (faults.CellOverrun pattern at) front count i p total lt h so_far = ends one (faults.CellOverrun pattern at) front count i p total lt h so_far
 fails_on one (faults.Stereo instrument sample) front count i p total lt h so_far = ends one (faults.Stereo instrument sample) front count i p total lt h so_far
 fails_on one (faults.TooLong instrument sample frames) front count i p total lt h so_far = ends one (faults.TooLong instrument sample frames) front count i p total lt h so_far
-fails_on one faults.NotYet front count i p total lt h so_far = ends one faults.NotYet front count i p total lt h so_far

@@ -1,87 +1,94 @@
 -- A whole file: which bytes give a song, and which fault others give.
-use Rattle.std.proofs.Common.{◌≡◌, ℕ, ◌+◌, ◌<◌, Bool, true, false, not, cond, List, [], ◌∷◌, ◌++◌, length, get_or, take, drop, refl, sym, ap, subst, ◌∙◌, arith, Option, Some, None, Result, Ok, Err, inl, inr, append_assoc}
+use Rattle.std.proofs.Common.{◌≡◌, ℕ, ◌+◌, ◌<◌, Bool, true, false, cond, List, ◌++◌, length, get_or, set, take, drop, refl, sym, ap, subst, ◌∙◌, arith, Option, Some, None, Result, Ok, Err, inl, inr, append_assoc, ltb}
 use Rattle.std.specs.Prelude.{nat_eq, slice_index, ◌||◌, ◌&&◌, ◌⊎◌}
-use Rattle.std.specs.List.{flat_map}
 use Rattle.std.proofs.lemmas.Bool.Decides.{nat_tests}
-use Rattle.std.proofs.lemmas.List.{append-nil, get_or-take}
 use Rattle.std.proofs.lemmas.Bool.{ltb-false, le-ltb}
-use Rattle.std.proofs.lemmas.List.{ext_get_or}
-use Rattle.std.proofs.Common.{ltb}
+use Rattle.std.proofs.lemmas.List.{get_or-take, ext_get_or, get_or-set_other}
 use Rattle.ft_types.specs.declared.module.Module.{Module}
-use Rattle.std.proofs.Common.{cond, append_assoc, inl, inr}
-use Rattle.std.proofs.lemmas.List.{append-nil}
-use Rattle.ft_format.specs.Canon.{identification, canon, header_bytes, pattern_bytes, instrument_bytes}
+use Rattle.ft_format.specs.Canon.{identification}
+use Rattle.ft_format.specs.Fields.{AreBytes}
+use Rattle.ft_format.specs.Spelling.{RawSong, identification_with, song_text, SongFits, module_of, Spells}
 use Rattle.ft_xmread.specs.declared.fault.XmFault.{XmFault}
 use Rattle.ft_xmread.specs.declared.fault.XmFault.TheVariants as faults
 use Rattle.ft_xmread.specs.Identification.{stands, wrong_from, unless_wrong, identification_at}
 use Rattle.ft_xmread.specs.Reading.{Place, ◌>>=◌, field_at}
-use Rattle.ft_xmread.specs.Header.{header_text, header_of}
-use Rattle.ft_xmread.specs.Whole.{song_at, so_far, fault_so_far, or_not_yet, song_behind, song_in}
-use Rattle.ft_xmread.specs.Song.{IsFirstWrong, IsSongOf}
-use Rattle.ft_xmread.proofs.Lawful.{IsBytes, field_again, bind_ok, passed, field_law}
+use Rattle.ft_xmread.specs.Whole.{song_at, song_in}
+use Rattle.ft_xmread.specs.Song.{IsFirstWrong}
+use Rattle.ft_xmread.proofs.Lawful.{field_again, bind_ok, field_law}
+use Rattle.ft_xmread.proofs.Quiet.{IsQuiet, fails, same_fault, song_quiet}
+use Rattle.ft_xmread.proofs.Numbers.{eq_is}
 use Rattle.ft_xmread.proofs.IdentifiedLaws.{AllFrom, first_is, all_are, is_first}
-use Rattle.ft_xmread.proofs.Numbers.{eq_is, is_so}
-use Rattle.ft_xmread.proofs.SongLaws.{IsSong, song_text, song_law}
-
--- ---- the canonical bytes, part by part
-
-header_parts : (song : Module) → header_bytes song ≡ identification ++ header_text (header_of song)
-unfolding header_bytes header_text
-header_parts song = simp (append-nil, append_assoc)
-
-three_parts : (front head patterns instruments whole : List ℕ) → whole ≡ front ++ head → whole ++ (patterns ++ (instruments ++ [])) ≡ front ++ ((head ++ (patterns ++ instruments)) ++ [])
-three_parts front head patterns instruments whole e =
-    ap (λ (l : List ℕ). l ++ (patterns ++ (instruments ++ []))) e
-    ∙ append_assoc front head (patterns ++ (instruments ++ []))
-    ∙ ap (λ (l : List ℕ). front ++ (head ++ (patterns ++ l))) (append-nil instruments)
-    ∙ ap (λ (l : List ℕ). front ++ l) (sym (append-nil (head ++ (patterns ++ instruments))))
-
-pub canon_parts : (song : Module) → canon song ≡ identification ++ (song_text song ++ [])
-unfolding canon
-canon_parts song = three_parts identification (header_text (header_of song)) (flat_map pattern_bytes song.patterns) (flat_map instrument_bytes song.instruments) (header_bytes song) (header_parts song)
+use Rattle.ft_xmread.proofs.SongLaws.{Parts, parts_text, PartsFit, meaning, song_law}
 
 -- ---- the identification
 
--- the byte of a piece that passes, and whose letter is a capital
-same_byte : (x y k : ℕ) → (k ≡ 9 → x ≡ y) → ((nat_eq x y) || ((nat_eq k 9) && (nat_eq x 109))) ≡ true → x ≡ y
-same_byte x y k nine h = grind (arith, nat_tests)
+abbrev pub IsLetter : ℕ → Type 0
+IsLetter letter = (letter ≡ 77) ⊎ (letter ≡ 109)
 
-identified : (piece : List ℕ) → length piece ≡ 17 → slice_index piece 9 ≡ 77 → AllFrom piece 0 17 → piece ≡ identification
-identified piece len letter all =
-    ext_get_or 0 piece identification len
-    (λ i lt. same_byte (get_or piece i 0) (get_or identification i 0) i (λ nine. subst (λ (k : ℕ). get_or piece k 0 ≡ get_or identification k 0) (sym nine) letter) (all i (omega arith) (omega arith)))
+-- the byte of a piece that passes is the identification's, but for the letter
+other_place : (i : ℕ) → nat_eq i 9 ≡ false → i ≡ 9 → ⊥
+other_place i e same = grind (arith, nat_tests)
+
+same_byte : (x y k : ℕ) → ((nat_eq x y) || ((nat_eq k 9) && (nat_eq x 109))) ≡ true → nat_eq k 9 ≡ false → x ≡ y
+same_byte x y k h other = grind (arith, nat_tests)
+
+letter_step : (x : ℕ) (b : Bool) → nat_eq x 77 ≡ b → (b || nat_eq x 109) ≡ true → IsLetter x
+letter_step x true e h = inl (eq_is x 77 e)
+letter_step x false e h = inr (eq_is x 109 h)
+
+letter_byte : (x : ℕ) → ((nat_eq x 77) || (nat_eq x 109)) ≡ true → IsLetter x
+letter_byte x h = letter_step x (nat_eq x 77) refl h
+
+-- the identification with the letter of a piece
+abbrev with_letter_of : List ℕ → List ℕ
+with_letter_of piece = set identification 9 (get_or piece 9 0)
+
+byte_step : (piece : List ℕ) (i : ℕ) (b : Bool) → nat_eq i 9 ≡ b → stands piece i ≡ true → get_or piece i 0 ≡ get_or (with_letter_of piece) i 0
+byte_step piece i true e h = subst (λ (k : ℕ). get_or piece k 0 ≡ get_or (with_letter_of piece) k 0) (sym (eq_is i 9 e)) refl
+byte_step piece i false e h =
+    same_byte (get_or piece i 0) (get_or identification i 0) i h e
+    ∙ sym (get_or-set_other identification 9 i (get_or piece 9 0) 0 (λ same. absurd (other_place i e same)))
+
+identified : (piece : List ℕ) → length piece ≡ 17 → AllFrom piece 0 17 → piece ≡ identification_with (get_or piece 9 0)
+identified piece len all = ext_get_or 0 piece (with_letter_of piece) len (λ i lt. byte_step piece i (nat_eq i 9) refl (all i (omega arith) (omega arith)))
 
 unless_ok : (at : ℕ) (o : Option ℕ) (x y : ℕ × Place) → unless_wrong at o x ≡ Ok y → (o ≡ None) × (x ≡ y)
 unless_ok at None x y e = (refl, cc)
 unless_ok at (Some k) x y e = absurd cc
 
--- what passes with a capital letter is the identification
-pub id_takes : (file : List ℕ) (letter : ℕ × Place) → IsBytes file → identification_at (record { at = 0; left = file }) ≡ Ok letter → letter.0 ≡ 77
-    → (file ≡ identification ++ letter.1.left) × IsBytes letter.1.left
+abbrev front_of : List ℕ → Place
+front_of file = record { at = 0; left = file }
+
+-- what stood at the front of a file that passes
+record Passed (file : List ℕ) (letter : ℕ × Place) : Type 0 where
+  is : IsLetter letter.0
+  parts : file ≡ identification_with letter.0 ++ letter.1.left
+  bytes : AreBytes letter.1.left
+
+passed_step : (file piece left : List ℕ) (at : ℕ) → file ≡ piece ++ left → length piece ≡ 17 → AllFrom piece 0 17 → AreBytes left → Passed file (get_or piece 9 0, record { at = at; left = left })
+passed_step file piece left at e len all bytes = record {
+  is = letter_byte (get_or piece 9 0) (all 9 (omega arith) (omega arith));
+  parts = e ∙ ap (λ (l : List ℕ). l ++ left) (identified piece len all);
+  bytes = bytes;
+}
+
+id_takes : (file : List ℕ) (letter : ℕ × Place) → AreBytes file → identification_at (front_of file) ≡ Ok letter → Passed file letter
 unfolding identification_at
-id_takes file letter bytes e capital =
-    let p : Place = record { at = 0; left = file } in
+id_takes file letter bytes e =
+    let p = front_of file in
     let f = bind_ok (field_at 17 p) _ letter e in
     let t = (field_law 17).takes p f.0 bytes f.1 in
     let u = unless_ok 0 (wrong_from 0 17 f.0.0) (slice_index f.0.0 9, f.0.1) letter f.2 in
-    let nine : slice_index f.0.0 9 ≡ 77 = ap (λ (y : ℕ × Place). y.0) u.1 ∙ capital in
-    let whole = identified f.0.0 t.fits.0 nine (all_are f.0.0 0 17 u.0) in
-    (t.parts ∙ ap (λ (l : List ℕ). l ++ f.0.1.left) whole ∙ ap (λ (y : ℕ × Place). identification ++ y.1.left) u.1, subst (λ (y : ℕ × Place). IsBytes y.1.left) u.1 t.bytes)
+    subst (Passed file) u.1 (passed_step file f.0.0 f.0.1.left f.0.1.at t.parts t.fits.0 (all_are f.0.0 0 17 u.0) t.bytes)
 
--- the identification with a capital letter, and the place behind it
-abbrev passed_id : List ℕ → ℕ × Place
-passed_id rest = (77, record { at = 17; left = rest })
-
-again_here : (rest : List ℕ) → unless_wrong 0 (wrong_from 0 17 identification) (passed_id rest) ≡ Ok (passed_id rest)
+none_wrong : (letter : ℕ) → IsLetter letter → wrong_from 0 17 (identification_with letter) ≡ None
 unfolding wrong_from
-again_here rest = refl
+none_wrong letter (inl e) = rw e refl
+none_wrong letter (inr e) = rw e refl
 
-pub id_again : (rest : List ℕ) → identification_at (record { at = 0; left = identification ++ rest }) ≡ Ok (passed_id rest)
+id_again : (letter : ℕ) (rest : List ℕ) → IsLetter letter → identification_at (front_of (identification_with letter ++ rest)) ≡ Ok (letter, record { at = 17; left = rest })
 unfolding identification_at
-id_again rest = rw (field_again 0 identification rest 17 refl) (again_here rest)
-
-abbrev front_of : List ℕ → Place
-front_of file = record { at = 0; left = file }
+id_again letter rest is = rw (field_again 0 (identification_with letter) rest 17 refl, none_wrong letter is) refl
 
 -- a piece of the first 17 bytes has the same bytes
 stands_in : (file : List ℕ) (k : ℕ) → k < 17 → stands (take 17 file) k ≡ stands file k
@@ -129,113 +136,71 @@ wrong_id file at w =
     let same : 0 + at ≡ at = omega arith in
     rw (long, first) (ap (λ (i : ℕ). Err (faults.NotXm i)) same)
 
--- ---- what the last step leaves
-
-so_far_ok : {A : Type 0} (r : Result A XmFault) (x : A) → so_far r ≡ Ok x → r ≡ Ok x
-so_far_ok (Ok y) x e = e
-so_far_ok (Err f) x e = absurd cc
-
-or_not_yet_ok : {A : Type 0} (r : Result A XmFault) (x : A) → or_not_yet r ≡ Ok x → r ≡ Ok x
-or_not_yet_ok (Ok y) x e = e
-or_not_yet_ok (Err f) x e = absurd cc
-
-kept : {A : Type 0} (b : Bool) (x y : A) (d : XmFault) → cond b (Ok x) (Err d) ≡ Ok y → (b ≡ true) × (x ≡ y)
-kept true x y d e = (refl, cc)
-kept false x y d e = absurd cc
-
-not_kept : {A : Type 0} (b : Bool) (x : A) (d f : XmFault) → cond b (Ok x) (Err d) ≡ Err f → f ≡ d
-not_kept true x d f e = absurd cc
-not_kept false x d f e = cc
-
-abbrev ended : Module × Place → Result Module XmFault
-ended song = cond (nat_eq (length song.1.left) 0) (Ok song.0) (Err faults.NotYet)
-
-behind_step : (b : Bool) (r : Result (Module × Place) XmFault) (f : XmFault) → cond b (Err faults.NotYet) (or_not_yet r >>= ended) ≡ Err f → f ≡ faults.NotYet
-behind_step true r f e = cc
-behind_step false (Err d) f e = cc
-behind_step false (Ok song) f e = not_kept (nat_eq (length song.1.left) 0) song.0 faults.NotYet f e
-
-behind_is : (letter : ℕ × Place) (f : XmFault) → song_behind letter ≡ Err f → f ≡ faults.NotYet
-behind_is letter f e = behind_step (not (nat_eq letter.0 77)) (song_at letter.1) f e
-
--- a fault that is told so far
-abbrev pub IsTold : XmFault → Type 0
-IsTold f = ((at : ℕ) × (f ≡ faults.NotXm at)) ⊎ (f ≡ faults.NotYet)
-
-told_so_far : (f : XmFault) → IsTold (fault_so_far f)
-told_so_far (faults.NotXm at) = inl (at, refl)
-told_so_far (faults.Version found) = inr refl
-told_so_far (faults.Short at need) = inr refl
-told_so_far (faults.Count at found) = inr refl
-told_so_far (faults.Packing pattern found) = inr refl
-told_so_far (faults.CellOverrun pattern at) = inr refl
-told_so_far (faults.Stereo instrument sample) = inr refl
-told_so_far (faults.TooLong instrument sample frames) = inr refl
-told_so_far faults.NoMemory = inr refl
-told_so_far faults.NotYet = inr refl
-
-told_step : (r : Result (ℕ × Place) XmFault) (f : XmFault) → (so_far r >>= song_behind) ≡ Err f → IsTold f
-told_step (Ok letter) f e = inr (behind_is letter f e)
-told_step (Err d) f e = let same : fault_so_far d ≡ f = cc in subst IsTold same (told_so_far d)
-
-pub is_told : (file : List ℕ) (f : XmFault) → song_in file ≡ Err f → IsTold f
-unfolding song_in
-is_told file f e = told_step (identification_at (front_of file)) f e
-
-only_not_xm : (d : XmFault) (at : ℕ) → fault_so_far d ≡ faults.NotXm at → d ≡ faults.NotXm at
-only_not_xm (faults.NotXm k) at e = e
-only_not_xm (faults.Version found) at e = absurd cc
-only_not_xm (faults.Short k need) at e = absurd cc
-only_not_xm (faults.Count k found) at e = absurd cc
-only_not_xm (faults.Packing pattern found) at e = absurd cc
-only_not_xm (faults.CellOverrun pattern k) at e = absurd cc
-only_not_xm (faults.Stereo instrument sample) at e = absurd cc
-only_not_xm (faults.TooLong instrument sample frames) at e = absurd cc
-only_not_xm faults.NoMemory at e = absurd cc
-only_not_xm faults.NotYet at e = absurd cc
-
-not_xm_step : (r : Result (ℕ × Place) XmFault) (at : ℕ) → (so_far r >>= song_behind) ≡ Err (faults.NotXm at) → r ≡ Err (faults.NotXm at)
-not_xm_step (Ok letter) at e = let told = behind_is letter (faults.NotXm at) e in absurd cc
-not_xm_step (Err d) at e =
-    let same : fault_so_far d ≡ faults.NotXm at = cc in
-    ap (λ (f : XmFault). Err f) (only_not_xm d at same)
-
 -- ---- what a file gives
+
+behind_quiet : (r : Result (Module × Place) XmFault) → IsQuiet r → (at : ℕ) → ¬ ((r >>= λ x. Ok x.0) ≡ fails {A = Module} (faults.NotXm at))
+behind_quiet (Ok x) quiet at e = absurd cc
+behind_quiet (Err f) quiet at e = quiet at (ap (λ (g : XmFault). Err g) (same_fault {A = Module} f (faults.NotXm at) e))
+
+rest_ok : (r : Result (Module × Place) XmFault) (song : Module) → (r >>= λ x. Ok x.0) ≡ Ok song → (x : Module × Place) × (r ≡ Ok x) × (x.0 ≡ song)
+rest_ok (Ok x) song e = (x, refl, cc)
+rest_ok (Err f) song e = absurd cc
+
+abbrev raw_of : ℕ → Parts → RawSong
+raw_of letter x = record { letter = letter; header = x.0; patterns = x.1.0; instruments = x.1.1 }
+
+abbrev parts_of : RawSong → Parts
+parts_of raw = (raw.header, (raw.patterns, raw.instruments))
+
+raw_fits : (letter : ℕ) (x : Parts) → IsLetter letter → PartsFit x → SongFits (raw_of letter x)
+raw_fits letter x is f = record {
+  letter = is;
+  header = f.0;
+  patterns_count = f.1.0.count;
+  patterns = f.1.0.each;
+  instruments_count = f.1.1.count;
+  instruments = f.1.1.each;
+}
+
+parts_fit : (raw : RawSong) → SongFits raw → PartsFit (parts_of raw)
+parts_fit raw fits = (fits.header, (record { count = fits.patterns_count; each = fits.patterns }, record { count = fits.instruments_count; each = fits.instruments }))
+
+pub gives_song : (file : List ℕ) (song : Module) → AreBytes file → song_in file ≡ Ok song → Spells file song
+unfolding song_in song_text module_of
+gives_song file song bytes e =
+    let l = bind_ok (identification_at (front_of file)) _ song e in
+    let i = id_takes file l.0 bytes l.1 in
+    let s = rest_ok (song_at l.0.1) song l.2 in
+    let t = song_law.takes l.0.1 s.0 i.bytes s.1 in
+    record {
+      raw = raw_of l.0.0 t.raw;
+      surplus = s.0.1.left;
+      fits = raw_fits l.0.0 t.raw i.is t.fits;
+      text = i.parts ∙ ap (λ (x : List ℕ). identification_with l.0.0 ++ x) t.parts ∙ sym (append_assoc (identification_with l.0.0) (parts_text t.raw) s.0.1.left);
+      means = t.value ∙ s.2;
+    }
+
+abbrev song_behind : ℕ × Place → Result Module XmFault
+song_behind letter = song_at letter.1 >>= λ x. Ok x.0
+
+gives_step : (file : List ℕ) (raw : RawSong) (surplus : List ℕ) → SongFits raw → file ≡ identification_with raw.letter ++ (parts_text (parts_of raw) ++ surplus)
+    → (identification_at (front_of file) >>= song_behind) ≡ Ok (meaning (parts_of raw))
+gives_step file raw surplus fits e =
+    ap (λ (x : List ℕ). identification_at (front_of x) >>= song_behind) e
+    ∙ rw (id_again raw.letter (parts_text (parts_of raw) ++ surplus) fits.letter, song_law.again 17 (parts_of raw) surplus (parts_fit raw fits)) refl
+
+pub song_gives : (file : List ℕ) (song : Module) → Spells file song → song_in file ≡ Ok song
+unfolding song_in song_text module_of
+song_gives file song s =
+    gives_step file s.raw s.surplus s.fits (s.text ∙ append_assoc (identification_with s.raw.letter) (parts_text (parts_of s.raw)) s.surplus)
+    ∙ ap (λ (m : Module). Ok m) s.means
+
+-- ---- the identification's fault
+
+not_xm_step : (r : Result (ℕ × Place) XmFault) (at : ℕ) → (r >>= song_behind) ≡ fails {A = Module} (faults.NotXm at) → r ≡ Err (faults.NotXm at)
+not_xm_step (Ok letter) at e = absurd (behind_quiet (song_at letter.1) (song_quiet letter.1) at e)
+not_xm_step (Err d) at e = ap (λ (f : XmFault). Err f) (same_fault {A = Module} d (faults.NotXm at) e)
 
 pub gives_wrong : (file : List ℕ) (at : ℕ) → song_in file ≡ Err (faults.NotXm at) → IsFirstWrong file at
 unfolding song_in
 gives_wrong file at e = id_wrong file at (not_xm_step (identification_at (front_of file)) at e)
-
-pub wrong_gives : (file : List ℕ) (at : ℕ) → IsFirstWrong file at → song_in file ≡ Err (faults.NotXm at)
-unfolding song_in
-wrong_gives file at w = rw (wrong_id file at w) refl
-
-nothing_left : (l : List ℕ) → length l ≡ 0 → l ≡ []
-nothing_left [] e = refl
-nothing_left (x ∷ l) e = absurd (omega arith)
-
-pub gives_song : (file : List ℕ) (song : Module) → IsBytes file → song_in file ≡ Ok song → IsSongOf file song
-unfolding song_in
-gives_song file song bytes e =
-    let l = bind_ok (so_far (identification_at (front_of file))) song_behind song e in
-    let i = so_far_ok (identification_at (front_of file)) l.0 l.1 in
-    let c = passed (not (nat_eq l.0.0 77)) faults.NotYet (or_not_yet (song_at l.0.1) >>= ended) song l.2 in
-    let id = id_takes file l.0 bytes i (eq_is l.0.0 77 (is_so (nat_eq l.0.0 77) c.0)) in
-    let s = bind_ok (or_not_yet (song_at l.0.1)) ended song c.1 in
-    let t = song_law.takes l.0.1 s.0 id.1 (or_not_yet_ok (song_at l.0.1) s.0 s.1) in
-    let k = kept (nat_eq (length s.0.1.left) 0) s.0.0 song faults.NotYet s.2 in
-    let none = nothing_left s.0.1.left (eq_is (length s.0.1.left) 0 k.0) in
-    let parts = id.0 ∙ ap (λ (x : List ℕ). identification ++ x) (t.parts ∙ ap (λ (x : List ℕ). song_text s.0.0 ++ x) none) in
-    subst (IsSongOf file) k.1 (record {
-      valid = t.fits.valid;
-      plain = t.fits.plain;
-      spelled = parts ∙ sym (canon_parts s.0.0);
-    })
-
-pub song_gives : (file : List ℕ) (song : Module) → IsSongOf file song → song_in file ≡ Ok song
-unfolding song_in
-song_gives file song s =
-    let fits : IsSong song = record { valid = s.valid; plain = s.plain } in
-    let whole = s.spelled ∙ canon_parts song in
-    ap (λ (x : List ℕ). so_far (identification_at (front_of x)) >>= song_behind) whole
-    ∙ rw (id_again (song_text song ++ []), song_law.again 17 song [] fits) refl

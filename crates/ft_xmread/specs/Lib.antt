@@ -6,3 +6,4 @@ pub mod Sample
 pub mod Instrument
 pub mod Whole
 pub mod Song
+pub mod Laws

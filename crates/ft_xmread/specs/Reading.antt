@@ -4,7 +4,7 @@
 use Rattle.std.specs.Prelude.{◌≡◌, ℕ, zero, suc, ◌+◌, Bool, true, false, List, [], ◌∷◌, length, take, drop, Result, Ok, Err, nat_lt, if◌then◌else◌}
 use Rattle.byteorder.specs.Endian.{little_number}
 use Rattle.ft_xmread.specs.declared.fault.XmFault.{XmFault}
-use Rattle.ft_xmread.specs.declared.fault.XmFault.TheVariants.{Short, Count, NoMemory, NotYet}
+use Rattle.ft_xmread.specs.declared.fault.XmFault.TheVariants.{Short, Count, NoMemory}
 
 -- a place in the file, and the bytes from there on
 pub record Place : Type 0 where
@@ -41,10 +41,6 @@ abbrev pub checked : {A : Type 0} → (A → Bool) → (ℕ → A → XmFault) �
 checked is_bad fault one p = do
   x ← one p
   if is_bad x.0 then Err (fault p.at x.0) else Ok x
-
--- refused because it isn't read so far
-abbrev pub not_yet_at : {A : Type 0} → ℕ → A → XmFault
-not_yet_at _ _ = NotYet
 
 -- a number of two bytes that is refused over a limit
 abbrev pub count_at : ℕ → Reading ℕ

@@ -1,11 +1,9 @@
--- Samples: their headers, and their frames.
-use Rattle.std.specs.Prelude.{ℕ, ◌+◌, ◌/◌, ◌%◌, ℤ, Bool, List, [], ◌∷◌, map, nat_lt, ◌==◌, if◌then◌else◌}
-use Rattle.std.specs.Int.{w8, cast_signed}
+-- Samples: their headers.
+use Rattle.std.specs.Prelude.{ℕ, nat_lt}
+use Rattle.ft_format.specs.declared.sample.SampleHeader.{SampleHeader}
+use Rattle.ft_format.specs.Sample.{is_stereo, frames_of}
 use Rattle.ft_xmread.specs.declared.fault.XmFault.TheVariants.{Stereo, TooLong}
-use Rattle.ft_xmread.specs.declared.sample.SampleHeader.{SampleHeader}
 use Rattle.ft_xmread.specs.Reading.{Reading, field_at, number_at, both, checked, seen, within}
-
--- ---- sample headers
 
 -- length, loop start and loop length in bytes
 abbrev pub spans_at : Reading (ℕ × (ℕ × ℕ))
@@ -30,30 +28,9 @@ sample_fields_at = seen (λ x. record {
 })
     (both spans_at (λ _. both bytes_at (λ _. field_at 22)))
 
--- bit 5 of the type says two channels, bit 4 frames of 16 bits
-abbrev pub is_stereo : SampleHeader → Bool
-is_stereo header = header.kind / 32 % 2 == 1
-
-abbrev pub is_wide : SampleHeader → Bool
-is_wide header = header.kind / 16 % 2 == 1
-
-abbrev pub frames_of : SampleHeader → ℕ
-frames_of header = if is_wide header then header.length / 2 else header.length
-
--- 40 bytes
-unfoldable pub sample_header_at : ℕ → ℕ → Reading (SampleHeader × List ℕ)
+-- 40 bytes, which are one field; faults count instruments from 1 and samples from 0
+unfoldable pub sample_header_at : ℕ → ℕ → Reading SampleHeader
 sample_header_at instrument number =
-    checked (λ x. nat_lt 983040 (frames_of x.0)) (λ _ x. TooLong instrument number (frames_of x.0))
-    (checked (λ x. is_stereo x.0) (λ _ _. Stereo instrument number)
-    (within 40 sample_fields_at))
-
--- ---- frames
-
--- each number is the step from the one before it, which wraps at 8 bits
-abbrev pub sums_from : ℕ → List ℕ → List ℕ
-sums_from before [] = []
-sums_from before (step ∷ steps) = (before + step) % 256 ∷ sums_from ((before + step) % 256) steps
-
--- the frames of narrow data, in two's complement; the first step is from 0
-unfoldable pub narrow_frames : List ℕ → List ℤ
-narrow_frames steps = map (cast_signed w8) (sums_from 0 steps)
+    checked (λ header. nat_lt 983040 (frames_of header)) (λ _ header. TooLong instrument number (frames_of header))
+    (checked is_stereo (λ _ _. Stereo instrument number)
+    (seen (λ x. x.0) (within 40 sample_fields_at)))

@@ -1,15 +1,16 @@
 //! The cells of a pattern.
 
-ghost use Rattle.std.specs.Prelude.{◌≡◌, ◌<◌, ◌+◌, length, IfOk, if◌then◌else◌};
-ghost use Rattle.std.specs.List.{list_all};
-ghost use Rattle.ft_format.specs.Canon.{is_set, mask_of, bytes_of_cell};
-ghost use Rattle.ft_xmread.specs.Reading.{Reads, times, byte_if};
-ghost use Rattle.ft_xmread.specs.Pattern.{has, note_at, overrun, raw_cell_at, cell_at, first_of, is_plain_cell};
+ghost use Rattle.std.specs.Prelude.{◌≡◌, ◌<◌, nat_le, if◌then◌else◌};
+ghost use Rattle.ft_format.specs.Pattern.{has};
+ghost use Rattle.ft_xmread.specs.Reading.{Reads, byte_if};
+ghost use Rattle.ft_xmread.specs.Pattern.{note_at, overrun, raw_cell_at, cell_at};
 
 use crate::fault::XmFault;
 use crate::reader::Reader;
 use ft_types::Cell;
-use std::alloc::Global;
+
+/// The highest note that a cell has.
+const KEY_OFF: u8 = 97;
 
 /// First bytes from here on are masks; lower ones are notes of plain cells.
 const MASK: u8 = 0x80;
@@ -86,36 +87,11 @@ fn read_raw_cell(reader: &mut Reader) -> Result<(u8, Cell), XmFault>
     Ok((first, cell))
 }
 
-/// The bit of a mask, where the byte isn't 0.
-fn bit_of(byte: u8, bit: u8) -> u8
-    ensures { result ≡ (if is_set byte then bit else 0) }
+/// The note of a cell; one past the key off is none.
+fn note_of(note: u8) -> u8
+    ensures { result ≡ (if nat_le note 97 then note else 0) }
 {
-    if byte != 0 { bit } else { 0 }
-}
-
-/// The mask of a cell, as it is written.
-fn mask_of(cell: Cell) -> u8
-    ensures value { result ≡ mask_of (bytes_of_cell cell) }
-    ensures small { result < 32 }
-{
-    bit_of(cell.note, NOTE)
-        + bit_of(cell.instrument, INSTRUMENT)
-        + bit_of(cell.volume, VOLUME)
-        + bit_of(cell.effect, EFFECT)
-        + bit_of(cell.parameter, PARAMETER)
-}
-
-/// Whether this is a plain cell: a note or none, a set volume or none, no effect.
-fn is_plain(cell: Cell) -> bool
-    ensures { result ≡ is_plain_cell cell }
-{
-    if cell.note > 96 {
-        return false;
-    }
-    if cell.volume != 0 && (cell.volume < 0x10 || cell.volume > 0x50) {
-        return false;
-    }
-    cell.effect == 0 && cell.parameter == 0
+    if note <= KEY_OFF { note } else { 0 }
 }
 
 /// This fault of a cell's bytes, where a missing byte is one past the data.
@@ -129,33 +105,16 @@ fn overrun(pattern: u16, at: u64, fault: XmFault) -> XmFault
 }
 
 /// The next cell in the data of a pattern.
-///
-/// So far it is `NotYet` where the cell isn't plain, or isn't spelled as it is written.
 #[tactic(auto, unfolding(crate::specs::Pattern::cell_at))]
 pub fn read_cell(reader: &mut Reader, pattern: u16) -> Result<Cell, XmFault>
     ensures { Reads (λ x. x) result reader.new (cell_at pattern reader.old) }
 {
     let at = reader.place();
-    let (first, cell) = match read_raw_cell(reader) {
-        Ok(raw) => raw,
-        Err(fault) => return Err(overrun(pattern, at, fault)),
-    };
-    if first != first_of(cell) {
-        return Err(XmFault::NotYet);
+    match read_raw_cell(reader) {
+        Ok((_, cell)) => Ok(Cell {
+            note: note_of(cell.note),
+            ..cell
+        }),
+        Err(fault) => Err(overrun(pattern, at, fault)),
     }
-    if !is_plain(cell) {
-        return Err(XmFault::NotYet);
-    }
-    Ok(cell)
-}
-
-/// The first byte of a cell, as it is written.
-fn first_of(cell: Cell) -> u8
-    ensures { result ≡ first_of cell }
-{
-    let mask = mask_of(cell);
-    if mask == 31 {
-        return cell.note;
-    }
-    MASK + mask
 }

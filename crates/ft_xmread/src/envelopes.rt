@@ -1,39 +1,26 @@
 //! Note map, envelopes and automatic vibrato: what the head of an instrument with samples says
 //! beside its name.
 
-ghost use Rattle.std.specs.Prelude.{◌≡◌, nat_le};
-ghost use Rattle.std.specs.List.{list_all};
+ghost use Rattle.std.specs.Prelude.{◌≡◌, map, min};
+ghost use Rattle.ft_format.specs.Instrument.{point_of, envelope_of, vibrato_of, instrument_with};
 ghost use Rattle.ft_xmread.specs.Reading.{Reads};
-ghost use Rattle.ft_xmread.specs.Instrument.{point_at, points_at, two_at, turns_at, vibrato_at, envelope_of, extra_at, is_off_envelope, is_still, is_plain_extra};
+ghost use Rattle.ft_xmread.specs.Instrument.{point_at, points_at, two_at, turns_at, vibrato_at, raw_envelope, extra_at};
 
 use crate::fault::XmFault;
 use crate::reader::Reader;
-use ft_types::{Envelope, Point, Vibrato};
+use ft_format::{Extra, InstrumentHead, Turns};
+use ft_types::{Envelope, Instrument, Point, Sample, Samples, Vibrato};
 
-/// The bytes of a sample header, as it is written.
-const WRITTEN_SAMPLE_HEADER: u32 = 40;
+/// The highest value of an envelope.
+const MOST_VALUE: u16 = 64;
+
+const MOST_POINTS: u8 = 12;
+
+const LAST_POINT: u8 = 11;
+
+const LAST_SAMPLE: u8 = 15;
 
 const ORIGIN: Point = Point { x: 0, y: 0 };
-
-/// The points at which an envelope stays or turns.
-#[derive(Clone, Copy, Debug)]
-pub struct Turns {
-    pub sustain: u8,
-    pub loop_start: u8,
-    pub loop_end: u8,
-}
-
-/// Bytes 29 to 240 of the head of an instrument with samples.
-#[derive(Clone, Copy, Debug)]
-pub struct Extra {
-    /// 40 as written; any value is read.
-    pub header_size: u32,
-    pub map: [u8; 96],
-    pub volume: Envelope,
-    pub panning: Envelope,
-    pub vibrato: Vibrato,
-    pub fadeout: u16,
-}
 
 #[tactic(auto, unfolding(crate::specs::Instrument::point_at))]
 fn read_point(reader: &mut Reader) -> Result<Point, XmFault>
@@ -94,8 +81,8 @@ fn read_vibrato(reader: &mut Reader) -> Result<Vibrato, XmFault>
     })
 }
 
-fn envelope_of(points: [Point; 12], count: u8, turns: Turns, flags: u8) -> Envelope
-    ensures { result ≡ envelope_of points count turns flags }
+fn raw_envelope(points: [Point; 12], count: u8, turns: Turns, flags: u8) -> Envelope
+    ensures { result ≡ raw_envelope points count turns flags }
 {
     Envelope {
         points,
@@ -124,68 +111,88 @@ pub fn read_extra(reader: &mut Reader) -> Result<Extra, XmFault>
     Ok(Extra {
         header_size,
         map,
-        volume: envelope_of(volume_points, counts.0, volume_turns, flags.0),
-        panning: envelope_of(panning_points, counts.1, panning_turns, flags.1),
+        volume: raw_envelope(volume_points, counts.0, volume_turns, flags.0),
+        panning: raw_envelope(panning_points, counts.1, panning_turns, flags.1),
         vibrato,
         fadeout,
     })
 }
 
-/// Whether an envelope is valid and isn't on.
-fn is_off(envelope: &Envelope) -> bool
-    ensures { result ≡ is_off_envelope envelope.now }
+/// A point, with a value of at most 64.
+fn point_of(point: Point) -> Point
+    ensures { result ≡ point_of point }
 {
-    if !has_low_points(&envelope.points) {
-        return false;
+    Point {
+        x: point.x,
+        y: point.y.min(MOST_VALUE),
     }
-    if envelope.count > 12 {
-        return false;
-    }
-    if envelope.sustain > 11 || envelope.loop_start > 11 || envelope.loop_end > 11 {
-        return false;
-    }
-    envelope.flags <= 7 && envelope.flags % 2 == 0
 }
 
-/// Whether each value of an envelope is at most 64.
-fn has_low_points(points: &[Point]) -> bool
-    ensures { result ≡ list_all (λ point. nat_le point.y 64) points.now }
+/// The points of an envelope, with values of at most 64.
+fn points_of(points: [Point; 12]) -> [Point; 12]
+    ensures { result ≡ map point_of points }
 {
-    points.iter().all(|point| point.y <= 64)
+    let mut low = points;
+    for k in 0..12 {
+        low[k] = point_of(points[k]);
+    }
+    low
 }
 
-/// Whether each entry of a note map is in range.
-fn has_low_map(map: &[u8]) -> bool
-    ensures { result ≡ list_all (λ sample. nat_le sample 15) map.now }
+/// An envelope, brought into range.
+#[tactic(auto, unfolding(ft_format::specs::Instrument::envelope_of))]
+fn envelope_of(envelope: Envelope) -> Envelope
+    ensures { result ≡ envelope_of envelope }
 {
-    map.iter().all(|sample| *sample <= 15)
+    let points = points_of(envelope.points);
+    Envelope {
+        points,
+        count: envelope.count.min(MOST_POINTS),
+        sustain: envelope.sustain.min(LAST_POINT),
+        loop_start: envelope.loop_start.min(LAST_POINT),
+        loop_end: envelope.loop_end.min(LAST_POINT),
+        flags: envelope.flags % 8,
+    }
 }
 
-/// Whether an automatic vibrato is valid and does nothing.
-fn is_still(vibrato: &Vibrato) -> bool
-    ensures { result ≡ is_still vibrato.now }
+/// An automatic vibrato, brought into range.
+#[tactic(auto, unfolding(ft_format::specs::Instrument::vibrato_of))]
+fn vibrato_of(vibrato: Vibrato) -> Vibrato
+    ensures { result ≡ vibrato_of vibrato }
 {
-    if vibrato.kind > 3 {
-        return false;
+    Vibrato {
+        kind: if vibrato.kind <= 3 { vibrato.kind } else { 0 },
+        sweep: vibrato.sweep,
+        depth: vibrato.depth.min(15),
+        rate: vibrato.rate.min(63),
     }
-    vibrato.depth == 0 && vibrato.rate <= 63
 }
 
-/// Whether this stands in the head of a plain instrument, as it is written.
-pub fn is_plain(extra: &Extra) -> bool
-    ensures { result ≡ is_plain_extra extra.now }
+/// A note map, with samples of at most 15.
+fn map_of(samples: [u8; 96]) -> [u8; 96]
+    ensures { result ≡ map (min 15) samples }
 {
-    if extra.header_size != WRITTEN_SAMPLE_HEADER {
-        return false;
+    let mut low = samples;
+    for k in 0..96 {
+        low[k] = samples[k].min(LAST_SAMPLE);
     }
-    if !has_low_map(&extra.map) {
-        return false;
+    low
+}
+
+/// The instrument of a head, what stands in it, and its samples, brought into range.
+#[tactic(auto, unfolding(ft_format::specs::Instrument::instrument_with))]
+pub fn instrument_with(head: InstrumentHead, extra: Extra, samples: Vec<Sample>) -> Instrument
+    ensures { result ≡ instrument_with head extra samples.items }
+{
+    let (name, map) = (head.name, map_of(extra.map));
+    let (volume, panning) = (envelope_of(extra.volume), envelope_of(extra.panning));
+    Instrument {
+        name,
+        map,
+        volume,
+        panning,
+        vibrato: vibrato_of(extra.vibrato),
+        fadeout: extra.fadeout,
+        samples: Samples::from_vec(samples),
     }
-    if !is_off(&extra.volume) {
-        return false;
-    }
-    if !is_off(&extra.panning) {
-        return false;
-    }
-    is_still(&extra.vibrato)
 }

@@ -61,9 +61,6 @@ pub enum XmFault {
     /// Memory is wanting. No clause says when this comes.
     #[error("out of memory")]
     NoMemory,
-    /// The bytes are not the canonical bytes of a plain song, the only ones that are read so far.
-    #[error("no plain song in its canonical form")]
-    NotYet,
 }
 
 impl From<AllocError> for XmFault {

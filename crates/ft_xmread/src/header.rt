@@ -1,27 +1,22 @@
 //! The header, from byte 17 of a file to the end of the order table.
 
-ghost use Rattle.ft_xmread.specs.Reading.{Reads};
-ghost use Rattle.ft_xmread.specs.Header.{raw_of, titles_at, sizes_at, settings_at, header_at, has_fixed_fields, has_valid_numbers, has_padding, is_written, HasRanges, IsNarrow};
-ghost use Rattle.std.specs.Prelude.{◌≡◌, ◌==◌, ◌<◌, ◌≤◌, length, IfOk, IsTrue};
-ghost use Rattle.std.specs.List.{list_all};
+ghost use Rattle.std.specs.Prelude.{◌≡◌, ◌<◌, ◌≤◌, IfOk, IfErr};
+ghost use Rattle.ft_format.specs.Header.{length_of, restart_of, orders_of, song_of};
+ghost use Rattle.ft_xmread.specs.Reading.{Reads as ReadsAt};
+ghost use Rattle.ft_xmread.specs.Song.{Reads};
+ghost use Rattle.ft_xmread.specs.Header.{raw_of, titles_at, sizes_at, settings_at, header_at, HasRanges};
 
 use crate::fault::XmFault;
 use crate::reader::Reader;
+use ft_format::{Settings, Sizes, Titles};
+use ft_types::{Instrument, Instruments, Module, Orders, Pattern, Patterns};
+use std::alloc::Global;
 
 /// The one version that is read.
 const VERSION: u16 = 0x0104;
 
 /// The bytes of a header from its size on that come before the order table.
 const BEFORE_ORDERS: u32 = 20;
-
-/// The byte behind the name, as it is written.
-const MARK: u8 = 0x1A;
-
-/// The bytes of an order table, as it is written.
-const WRITTEN_ORDERS: usize = 256;
-
-/// The flags of a song with linear periods.
-const LINEAR: u16 = 1;
 
 const MOST_ORDERS: u16 = 256;
 
@@ -30,39 +25,6 @@ const MOST_CHANNELS: u16 = 32;
 const MOST_PATTERNS: u16 = 256;
 
 const MOST_INSTRUMENTS: u16 = 128;
-
-/// The names, bytes 17 to 57.
-#[derive(Clone, Copy, Debug)]
-pub struct Titles {
-    pub name: [u8; 20],
-    /// 0x1A as written; any value is read.
-    pub mark: u8,
-    pub tracker: [u8; 20],
-}
-
-/// Bytes 58 to 69, behind a version that is known.
-#[derive(Clone, Copy, Debug)]
-pub struct Sizes {
-    /// The bytes of the header from this field on, at least 21.
-    pub size: u32,
-    /// Song length in orders, at most 256.
-    pub length: u16,
-    pub restart: u16,
-    /// 1 to 32.
-    pub channels: u16,
-}
-
-/// Bytes 70 to 79.
-#[derive(Clone, Copy, Debug)]
-pub struct Settings {
-    /// At most 256.
-    pub patterns: u16,
-    /// At most 128.
-    pub instruments: u16,
-    pub flags: u16,
-    pub tempo: u16,
-    pub bpm: u16,
-}
 
 /// The whole header, as the file spells it.
 #[derive(Clone, Copy, Debug)]
@@ -76,7 +38,7 @@ pub struct Header<'a> {
 
 #[tactic(auto, unfolding(crate::specs::Header::titles_at))]
 fn read_titles(reader: &mut Reader) -> Result<Titles, XmFault>
-    ensures { Reads (λ x. x) result reader.new (titles_at reader.old) }
+    ensures { ReadsAt (λ x. x) result reader.new (titles_at reader.old) }
 {
     let name = reader.array()?;
     let mark = reader.byte()?;
@@ -90,7 +52,7 @@ fn read_titles(reader: &mut Reader) -> Result<Titles, XmFault>
 
 #[tactic(auto, unfolding(crate::specs::Header::sizes_at))]
 fn read_sizes(reader: &mut Reader) -> Result<Sizes, XmFault>
-    ensures value { Reads (λ x. x) result reader.new (sizes_at reader.old) }
+    ensures value { ReadsAt (λ x. x) result reader.new (sizes_at reader.old) }
     ensures size { IfOk result (λ sizes. 20 < sizes.size) }
     ensures length { IfOk result (λ sizes. sizes.length ≤ 256) }
     ensures channels { IfOk result (λ sizes. sizes.channels ≤ 32) }
@@ -124,7 +86,7 @@ fn read_sizes(reader: &mut Reader) -> Result<Sizes, XmFault>
 
 #[tactic(auto, unfolding(crate::specs::Header::settings_at))]
 fn read_settings(reader: &mut Reader) -> Result<Settings, XmFault>
-    ensures value { Reads (λ x. x) result reader.new (settings_at reader.old) }
+    ensures value { ReadsAt (λ x. x) result reader.new (settings_at reader.old) }
     ensures instruments { IfOk result (λ settings. settings.instruments ≤ 128) }
 {
     let patterns = reader.count(MOST_PATTERNS)?;
@@ -144,7 +106,7 @@ fn read_settings(reader: &mut Reader) -> Result<Settings, XmFault>
 /// The header behind the identification.
 #[tactic(auto, unfolding(crate::specs::Header::header_at))]
 pub fn read_header<'a>(reader: &mut Reader<'a>) -> Result<Header<'a>, XmFault>
-    ensures value { Reads raw_of result reader.new (header_at reader.old) }
+    ensures value { ReadsAt raw_of result reader.new (header_at reader.old) }
     ensures ranges { IfOk result HasRanges }
 {
     let titles = read_titles(reader)?;
@@ -159,63 +121,62 @@ pub fn read_header<'a>(reader: &mut Reader<'a>) -> Result<Header<'a>, XmFault>
     })
 }
 
-/// Whether each byte is 0.
-pub fn is_all_zero(bytes: &[u8]) -> bool
-    ensures { result ≡ list_all (λ byte. byte == 0) bytes.now }
-{
-    bytes.iter().all(|byte| *byte == 0)
-}
-
 impl<'a> Header<'a> {
-    /// Whether the fields that no module changes are as they are written.
-    #[tactic(auto, unfolding(crate::specs::Header::has_fixed_fields))]
-    fn has_fixed_fields(&self) -> bool
-        ensures test { result ≡ has_fixed_fields (raw_of self.now) }
-        ensures table { IsTrue result → length self.now.orders.now ≡ 256 }
+    /// The song length in orders; 0 is read as 1.
+    fn length(&self) -> u16
+        ensures { result ≡ length_of self.now.sizes }
     {
-        if self.orders.len() != WRITTEN_ORDERS || self.titles.mark != MARK {
-            return false;
-        }
-        self.settings.flags == LINEAR
+        self.sizes.length.max(1)
     }
 
-    /// Whether the numbers are in the ranges of a valid module.
-    #[tactic(auto, unfolding(crate::specs::Header::has_valid_numbers))]
-    fn has_valid_numbers(&self) -> bool
-        ensures test { result ≡ has_valid_numbers (raw_of self.now) }
-        ensures tempo { IsTrue result → self.now.settings.tempo ≤ 31 }
-        ensures bpm { IsTrue result → self.now.settings.bpm ≤ 255 }
+    /// The restart position; one past the song is 0.
+    fn restart(&self) -> u16
+        ensures { result ≡ restart_of self.now.sizes }
     {
-        if self.sizes.restart >= self.sizes.length {
-            return false;
+        if self.sizes.restart < self.length() {
+            self.sizes.restart
+        } else {
+            0
         }
-        if self.settings.tempo < 1 || self.settings.tempo > 31 {
-            return false;
-        }
-        self.settings.bpm >= 32 && self.settings.bpm <= 255
     }
 
-    /// Whether the order table is filled with 0 behind the song's orders.
-    #[tactic(auto, unfolding(crate::specs::Header::has_padding))]
-    fn has_padding(&self) -> bool
-        requires { self.now.sizes.length ≤ length self.now.orders.now }
-        ensures { result ≡ has_padding (raw_of self.now) }
-    {
-        is_all_zero(&self.orders[self.sizes.length as usize..])
-    }
-
-    /// Whether this is the header of a plain module as it is written.
-    pub fn is_written(&self) -> bool
+    /// The orders; those that the table doesn't hold are 0.
+    fn orders(&self, alloc: Global) -> Result<Vec<u8>, XmFault>
         requires { HasRanges self.now }
-        ensures test { result ≡ is_written (raw_of self.now) }
-        ensures narrow { IsTrue result → IsNarrow self.now }
+        ensures value { IfOk result (λ orders. orders.items ≡ orders_of (length_of self.now.sizes) self.now.orders.now) }
+        ensures wanting { IfErr result (λ fault. fault ≡ XmFault.NoMemory) }
     {
-        if !self.has_fixed_fields() {
-            return false;
-        }
-        if !self.has_valid_numbers() {
-            return false;
-        }
-        self.has_padding()
+        let count = usize::from(self.length());
+        let stored = count.min(self.orders.len());
+        let mut orders = Vec::with_capacity(alloc, count)?;
+        orders.extend_from_slice(&self.orders[..stored])?;
+        orders.resize(count, 0)?;
+        Ok(orders)
+    }
+
+    /// The module of this header, its numbers brought into range.
+    #[tactic(auto, unfolding(ft_format::specs::Header::song_of))]
+    pub fn song(
+        &self,
+        alloc: Global,
+        patterns: Vec<Pattern>,
+        instruments: Vec<Instrument>,
+    ) -> Result<Module, XmFault>
+        requires { HasRanges self.now }
+        ensures { Reads result (song_of (raw_of self.now) patterns.items instruments.items) }
+    {
+        let orders = self.orders(alloc)?;
+        Ok(Module {
+            name: self.titles.name,
+            tracker: self.titles.tracker,
+            restart: self.restart(),
+            channels: self.sizes.channels as u8,
+            linear: self.settings.flags % 2 == 1,
+            tempo: self.settings.tempo.clamp(1, 31) as u8,
+            bpm: self.settings.bpm.clamp(32, 255) as u8,
+            orders: Orders::from_vec(orders),
+            patterns: Patterns::from_vec(patterns),
+            instruments: Instruments::from_vec(instruments),
+        })
     }
 }

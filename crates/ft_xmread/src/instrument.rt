@@ -1,16 +1,16 @@
 //! Instruments.
 
-ghost use Rattle.std.specs.Prelude.{◌≡◌, ◌≤◌, ◌+◌, IfOk};
-ghost use Rattle.ft_xmread.specs.Reading.{Reads, times};
-ghost use Rattle.ft_xmread.specs.Instrument.{head_at, sized_head_at, is_written_head, zero_instrument, written_extra_at, sample_at, rest_at, instrument_at};
+ghost use Rattle.std.specs.Prelude.{◌≤◌, ◌+◌, IfOk};
+ghost use Rattle.ft_xmread.specs.Reading.{Reads, seen, within, times};
+ghost use Rattle.ft_xmread.specs.Sample.{sample_header_at};
+ghost use Rattle.ft_xmread.specs.Instrument.{head_at, sized_head_at, extra_at, samples_at, headers_and_samples_at, rest_at, instrument_at};
 
-use crate::deltas::narrow_frames;
-use crate::envelopes::{Extra, is_plain, read_extra};
+use crate::envelopes::{instrument_with, read_extra};
 use crate::fault::XmFault;
-use crate::header::is_all_zero;
 use crate::reader::Reader;
-use crate::sample::{SampleHeader, read_sample_header};
-use ft_types::{Envelope, Frames, Instrument, Point, Sample, Samples, Vibrato};
+use crate::sample::{read_sample_header, sample_from};
+use ft_format::{Extra, InstrumentHead, SampleHeader};
+use ft_types::{Envelope, Instrument, Point, Sample, Vibrato};
 use std::alloc::Global;
 
 /// The bytes of a head that each instrument has.
@@ -18,9 +18,6 @@ const SHORT_HEAD: u32 = 29;
 
 /// The bytes of a head that an instrument with samples has at least.
 const LONG_HEAD: u32 = 241;
-
-/// The bytes of a head with samples, as it is written.
-const WRITTEN_HEAD: u32 = 263;
 
 const MOST_SAMPLES: u16 = 16;
 
@@ -33,24 +30,20 @@ const NO_ENVELOPE: Envelope = Envelope {
     flags: 0,
 };
 
-const NO_VIBRATO: Vibrato = Vibrato {
-    kind: 0,
-    sweep: 0,
-    depth: 0,
-    rate: 0,
+/// What an instrument without samples says behind its name.
+const NO_EXTRA: Extra = Extra {
+    header_size: 0,
+    map: [0; 96],
+    volume: NO_ENVELOPE,
+    panning: NO_ENVELOPE,
+    vibrato: Vibrato {
+        kind: 0,
+        sweep: 0,
+        depth: 0,
+        rate: 0,
+    },
+    fadeout: 0,
 };
-
-/// The head of an instrument, bytes 0 to 28.
-#[derive(Clone, Copy, Debug)]
-pub struct InstrumentHead {
-    /// The bytes of the head, at least 29; with samples at least 241.
-    pub size: u32,
-    pub name: [u8; 22],
-    /// 0 as written; any value is read.
-    pub kind: u8,
-    /// At most 16.
-    pub samples: u16,
-}
 
 #[tactic(auto, unfolding(crate::specs::Instrument::head_at))]
 fn read_head(reader: &mut Reader) -> Result<InstrumentHead, XmFault>
@@ -90,114 +83,83 @@ fn read_sized_head(reader: &mut Reader) -> Result<InstrumentHead, XmFault>
     Ok(head)
 }
 
-/// The rest of the head of an instrument with samples, and the bytes behind it.
-///
-/// So far it is `NotYet` where it isn't plain, or isn't written so.
-#[tactic(auto, unfolding(crate::specs::Instrument::written_extra_at))]
-fn read_written_extra<'a>(reader: &mut Reader<'a>, size: u32) -> Result<(Extra, &'a [u8]), XmFault>
-    requires { 29 ≤ size }
-    ensures { Reads (λ x. (x.0, x.1.now)) result reader.new (written_extra_at size reader.old) }
+/// What stands in the head of an instrument with samples behind its first bytes. Bytes that are left
+/// are skipped.
+fn read_long_head(reader: &mut Reader, need: u32) -> Result<Extra, XmFault>
+    ensures { Reads (λ x. x) result reader.new (seen (λ x. x.0) (within need extra_at) reader.old) }
 {
-    let mut piece = reader.piece(size - SHORT_HEAD)?;
-    let extra = read_extra(&mut piece)?;
-    let surplus = piece.rest();
-    if !is_plain(&extra) {
-        return Err(XmFault::NotYet);
-    }
-    if !is_all_zero(surplus) {
-        return Err(XmFault::NotYet);
-    }
-    Ok((extra, surplus))
+    let mut piece = reader.piece(need)?;
+    read_extra(&mut piece)
 }
 
-/// The sample of an instrument: its header, then its data.
-///
-/// So far it is `NotYet` where it isn't plain, or isn't written so.
-#[tactic(auto, unfolding(crate::specs::Instrument::sample_at))]
-fn read_sample(alloc: Global, reader: &mut Reader, number: u16) -> Result<Sample, XmFault>
-    ensures { Reads (λ x. x) result reader.new (sample_at number reader.old) }
+/// All sample headers of an instrument.
+fn read_headers(
+    alloc: Global,
+    reader: &mut Reader,
+    instrument: u16,
+    count: u16,
+) -> Result<Vec<SampleHeader>, XmFault>
+    ensures { Reads (λ headers. headers.items) result reader.new (times (sample_header_at instrument) 0 count reader.old) }
 {
-    let (header, _) = read_sample_header(reader, number, 0)?;
-    if !header.is_plain() {
-        return Err(XmFault::NotYet);
+    let mut headers = Vec::with_capacity(alloc, usize::from(count))?;
+    for number in 0..count {
+        let header = read_sample_header(reader, instrument, number)?;
+        headers.push(header)?;
     }
-    let steps = reader.field(header.length)?;
-    let frames = narrow_frames(alloc, steps)?;
-    Ok(Sample {
-        name: header.name,
-        volume: header.volume,
-        finetune: header.finetune.cast_signed(),
-        relative: header.relative.cast_signed(),
-        panning: header.panning,
-        wide: false,
-        loop_kind: 0,
-        loop_start: 0,
-        loop_len: 0,
-        frames: Frames::from_vec(frames),
-    })
+    Ok(headers)
 }
 
-fn zero_instrument(alloc: Global, name: [u8; 22]) -> Instrument
-    ensures { result ≡ zero_instrument name }
+/// The samples of some headers: the data of each in turn.
+fn read_samples(
+    alloc: Global,
+    reader: &mut Reader,
+    headers: &[SampleHeader],
+) -> Result<Vec<Sample>, XmFault>
+    ensures { Reads (λ samples. samples.items) result reader.new (samples_at headers.now reader.old) }
 {
-    Instrument {
-        name,
-        map: [0; 96],
-        volume: NO_ENVELOPE,
-        panning: NO_ENVELOPE,
-        vibrato: NO_VIBRATO,
-        fadeout: 0,
-        samples: Samples::new(alloc),
+    let mut samples = Vec::with_capacity(alloc, headers.len())?;
+    for header in headers {
+        let steps = reader.field(header.length)?;
+        let sample = sample_from(alloc, header, steps)?;
+        samples.push(sample)?;
     }
+    Ok(samples)
 }
 
-/// What stands behind the first 29 bytes of an instrument.
+/// All sample headers of an instrument, and then the data of each.
+#[tactic(auto, unfolding(crate::specs::Instrument::headers_and_samples_at))]
+fn read_headers_and_samples(
+    alloc: Global,
+    reader: &mut Reader,
+    instrument: u16,
+    count: u16,
+) -> Result<Vec<Sample>, XmFault>
+    ensures { Reads (λ samples. samples.items) result reader.new (headers_and_samples_at instrument count reader.old) }
+{
+    let headers = read_headers(alloc, reader, instrument, count)?;
+    read_samples(alloc, reader, &headers)
+}
+
+/// What stands behind the first 29 bytes of a head.
 fn read_rest(
     alloc: Global,
     reader: &mut Reader,
     number: u16,
-    head: &InstrumentHead,
+    head: InstrumentHead,
 ) -> Result<Instrument, XmFault>
-    requires { 29 ≤ head.now.size }
-    ensures { Reads (λ x. x) result reader.new (rest_at number head.now reader.old) }
+    requires { 29 ≤ head.size }
+    ensures { Reads (λ x. x) result reader.new (rest_at number head reader.old) }
 {
     if head.samples == 0 {
         reader.field(head.size - SHORT_HEAD)?;
-        return Ok(zero_instrument(alloc, head.name));
+        return Ok(instrument_with(head, NO_EXTRA, Vec::new(alloc)));
     }
-    let (extra, _) = read_written_extra(reader, head.size)?;
-    let sample = read_sample(alloc, reader, number)?;
-    let mut samples = Samples::new(alloc);
-    samples.push(sample)?;
-    let (name, map) = (head.name, extra.map);
-    let (volume, panning) = (extra.volume, extra.panning);
-    Ok(Instrument {
-        name,
-        map,
-        volume,
-        panning,
-        vibrato: extra.vibrato,
-        fadeout: extra.fadeout,
-        samples,
-    })
+    let extra = read_long_head(reader, head.size - SHORT_HEAD)?;
+    let samples = read_headers_and_samples(alloc, reader, number, head.samples)?;
+    Ok(instrument_with(head, extra, samples))
 }
 
-/// Whether a head has no type, at most one sample, and the size that is written.
-fn is_written(head: &InstrumentHead) -> bool
-    ensures { result ≡ is_written_head head.now }
-{
-    if head.kind != 0 {
-        return false;
-    }
-    if head.samples == 0 {
-        return head.size == SHORT_HEAD;
-    }
-    head.samples == 1 && head.size == WRITTEN_HEAD
-}
-
-/// An instrument, with its faults counted from 1.
-///
-/// So far it is `NotYet` where it isn't plain, or isn't written so.
+/// An instrument; its faults name it by this number.
 #[tactic(auto, unfolding(crate::specs::Instrument::instrument_at))]
 pub fn read_instrument(
     alloc: Global,
@@ -207,13 +169,10 @@ pub fn read_instrument(
     ensures { Reads (λ x. x) result reader.new (instrument_at number reader.old) }
 {
     let head = read_sized_head(reader)?;
-    if !is_written(&head) {
-        return Err(XmFault::NotYet);
-    }
-    read_rest(alloc, reader, number, &head)
+    read_rest(alloc, reader, number, head)
 }
 
-/// As many instruments, one after the other.
+/// As many instruments, one after the other, which count from 1.
 pub fn read_instruments(
     alloc: Global,
     reader: &mut Reader,

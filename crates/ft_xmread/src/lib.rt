@@ -12,12 +12,14 @@ mod fault;
 mod header;
 mod identification;
 mod instrument;
+mod laws;
 mod pattern;
 mod reader;
 mod reading;
 mod sample;
 
 pub use fault::XmFault;
+pub use laws::one_answer_law;
 pub use reading::read_xm;
 
 #[cfg(test)]

@@ -1,14 +1,14 @@
 //! Patterns.
 
-ghost use Rattle.std.specs.Prelude.{◌≡◌, ◌<◌, ◌≤◌, ◌+◌, ◌*◌, ◌^◌, ◌==◌, length, replicate, IfOk, IfErr};
-ghost use Rattle.std.specs.List.{list_all};
-ghost use Rattle.ft_format.specs.Canon.{is_empty_cell};
-ghost use Rattle.ft_xmread.specs.Reading.{Reads, times, field_at};
-ghost use Rattle.ft_xmread.specs.Pattern.{empty_cell, cell_at, pattern_head_at, cells_at, pattern_at};
+ghost use Rattle.std.specs.Prelude.{◌≡◌, ◌≤◌, replicate, IfOk, IfErr};
+ghost use Rattle.ft_format.specs.Pattern.{rows_of, empty_cell};
+ghost use Rattle.ft_xmread.specs.Reading.{Reads, times};
+ghost use Rattle.ft_xmread.specs.Pattern.{cell_at, pattern_head_at, cells_at, pattern_at};
 
 use crate::cell::{EMPTY, read_cell};
 use crate::fault::XmFault;
 use crate::reader::Reader;
+use ft_format::PatternHead;
 use ft_types::{Cell, Cells, Pattern};
 use std::alloc::Global;
 
@@ -16,17 +16,6 @@ use std::alloc::Global;
 const HEAD: u32 = 9;
 
 const MOST_ROWS: u16 = 256;
-
-/// The head of a pattern, 9 bytes; its packing is the one known.
-#[derive(Clone, Copy, Debug)]
-pub struct PatternHead {
-    /// The bytes of the head, at least 9.
-    pub size: u32,
-    /// At most 256.
-    pub rows: u16,
-    /// The bytes of data.
-    pub packed: u16,
-}
 
 #[tactic(auto, unfolding(crate::specs::Pattern::pattern_head_at))]
 fn read_pattern_head(reader: &mut Reader, number: u16) -> Result<PatternHead, XmFault>
@@ -77,10 +66,13 @@ fn empty_cells(alloc: Global, count: usize) -> Result<Vec<Cell>, XmFault>
     Ok(cells)
 }
 
-fn is_all_empty(cells: &[Cell]) -> bool
-    ensures { result ≡ list_all is_empty_cell cells.now }
+/// The number of rows; 0 is read as 64.
+fn rows_of(head: PatternHead) -> u16
+    requires { head.rows ≤ 256 }
+    ensures value { result ≡ rows_of head }
+    ensures few { result ≤ 256 }
 {
-    cells.iter().all(|cell| *cell == EMPTY)
+    if head.rows == 0 { 64 } else { head.rows }
 }
 
 /// The cells of a pattern, and the bytes that they leave of its data. No data is a pattern of
@@ -104,9 +96,7 @@ fn read_cells<'a>(
     Ok((cells, data.rest()))
 }
 
-/// A pattern, with its faults counted from 0.
-///
-/// So far it is `NotYet` where it isn't written so, or isn't plain.
+/// A pattern; its faults name it by this number.
 #[tactic(auto, unfolding(crate::specs::Pattern::pattern_at))]
 pub fn read_pattern(
     alloc: Global,
@@ -119,19 +109,11 @@ pub fn read_pattern(
 {
     let head = read_pattern_head(reader, number)?;
     reader.field(head.size - HEAD)?;
-    let count = usize::from(head.rows) * usize::from(channels);
-    let (cells, surplus) = read_cells(alloc, reader, number, count, head.packed)?;
-    if head.size != HEAD || head.rows == 0 {
-        return Err(XmFault::NotYet);
-    }
-    if !surplus.is_empty() {
-        return Err(XmFault::NotYet);
-    }
-    if head.packed != 0 && is_all_empty(&cells) {
-        return Err(XmFault::NotYet);
-    }
+    let rows = rows_of(head);
+    let count = usize::from(rows) * usize::from(channels);
+    let (cells, _surplus) = read_cells(alloc, reader, number, count, head.packed)?;
     Ok(Pattern {
-        rows: head.rows,
+        rows,
         cells: Cells::from_vec(cells),
     })
 }

@@ -1,35 +1,25 @@
-//! Sample headers.
+//! Samples: their headers, and the values that they give.
 
-ghost use Rattle.std.specs.Prelude.{◌≡◌};
+ghost use Rattle.std.specs.Prelude.{◌≡◌, IfOk, IfErr, if◌then◌else◌};
+ghost use Rattle.ft_format.specs.Sample.{is_stereo, is_wide, in_frames, frames_of, loop_kind_of, loop_start_of, loop_len_of, is_unlooped, narrow_frames, wide_frames, sample_of};
 ghost use Rattle.ft_xmread.specs.Reading.{Reads};
-ghost use Rattle.ft_xmread.specs.Sample.{sample_fields_at, sample_header_at, frames_of, is_wide, is_stereo};
-ghost use Rattle.ft_xmread.specs.Instrument.{is_plain_header};
+ghost use Rattle.ft_xmread.specs.Sample.{sample_fields_at, sample_header_at};
 
+use crate::deltas::{narrow_frames, wide_frames};
 use crate::fault::XmFault;
 use crate::reader::Reader;
+use ft_format::SampleHeader;
+use ft_types::{Frames, Sample};
+use std::alloc::Global;
 
 /// The bytes of a sample header.
 const HEADER: u32 = 40;
 
 const MOST_FRAMES: u32 = 983_040;
 
-/// A sample header, as the file spells it. Length and loop numbers are in bytes.
-#[derive(Clone, Copy, Debug)]
-pub struct SampleHeader {
-    pub length: u32,
-    pub loop_start: u32,
-    pub loop_len: u32,
-    pub volume: u8,
-    /// A signed byte, in two's complement.
-    pub finetune: u8,
-    /// Bits 0 and 1 are the kind of loop. Bit 4: 16-bit frames. Bit 5: two channels.
-    pub kind: u8,
-    pub panning: u8,
-    /// A signed byte, in two's complement.
-    pub relative: u8,
-    pub skipped: u8,
-    pub name: [u8; 22],
-}
+const MOST_VOLUME: u8 = 64;
+
+const PING_PONG: u8 = 2;
 
 /// The fields of a sample header.
 #[tactic(auto, unfolding(crate::specs::Sample::sample_fields_at))]
@@ -58,68 +48,119 @@ fn read_fields(reader: &mut Reader) -> Result<SampleHeader, XmFault>
     })
 }
 
-impl SampleHeader {
-    fn is_stereo(&self) -> bool
-        ensures { result ≡ is_stereo self.now }
-    {
-        self.kind / 32 % 2 == 1
-    }
-
-    fn is_wide(&self) -> bool
-        ensures { result ≡ is_wide self.now }
-    {
-        self.kind / 16 % 2 == 1
-    }
-
-    /// Whether this is the header of a plain sample, as it is written.
-    pub fn is_plain(&self) -> bool
-        ensures { result ≡ is_plain_header self.now }
-    {
-        if self.loop_start != 0 || self.loop_len != 0 {
-            return false;
-        }
-        if self.volume > 64 {
-            return false;
-        }
-        self.kind == 0 && self.skipped == 0
-    }
-
-    /// The number of frames.
-    fn frames(&self) -> u32
-        ensures { result ≡ frames_of self.now }
-    {
-        if self.is_wide() {
-            self.length / 2
-        } else {
-            self.length
-        }
-    }
+fn is_stereo(header: &SampleHeader) -> bool
+    ensures { result ≡ is_stereo header.now }
+{
+    header.kind / 32 % 2 == 1
 }
 
-/// The header of a sample, and what its 40 bytes leave, which is nothing. Instruments count
-/// from 1 and samples from 0 in its faults.
+fn is_wide(header: &SampleHeader) -> bool
+    ensures { result ≡ is_wide header.now }
+{
+    header.kind / 16 % 2 == 1
+}
+
+/// A number of bytes as one of frames.
+fn in_frames(header: &SampleHeader, bytes: u32) -> u32
+    ensures { result ≡ in_frames header.now bytes }
+{
+    if is_wide(header) { bytes / 2 } else { bytes }
+}
+
+/// The number of frames.
+fn frames_of(header: &SampleHeader) -> u32
+    ensures { result ≡ frames_of header.now }
+{
+    in_frames(header, header.length)
+}
+
+/// The header of a sample. Instruments count from 1 and samples from 0 in its faults.
 #[tactic(auto, unfolding(crate::specs::Sample::sample_header_at))]
-pub fn read_sample_header<'a>(
-    reader: &mut Reader<'a>,
+pub fn read_sample_header(
+    reader: &mut Reader,
     instrument: u16,
     number: u16,
-) -> Result<(SampleHeader, &'a [u8]), XmFault>
-    ensures { Reads (λ x. (x.0, x.1.now)) result reader.new (sample_header_at instrument number reader.old) }
+) -> Result<SampleHeader, XmFault>
+    ensures { Reads (λ x. x) result reader.new (sample_header_at instrument number reader.old) }
 {
     let mut piece = reader.piece(HEADER)?;
     let header = read_fields(&mut piece)?;
-    if header.is_stereo() {
+    if is_stereo(&header) {
         return Err(XmFault::Stereo {
             instrument,
             sample: number,
         });
     }
-    if header.frames() > MOST_FRAMES {
+    let frames = frames_of(&header);
+    if frames > MOST_FRAMES {
         return Err(XmFault::TooLong {
             instrument,
             sample: number,
-            frames: header.frames(),
+            frames,
         });
     }
-    Ok((header, piece.rest()))
+    Ok(header)
+}
+
+/// A loop: its kind, and its first frame and its length in frames. Without one all are 0.
+#[derive(Clone, Copy, Debug)]
+struct Loop {
+    kind: u8,
+    start: u32,
+    len: u32,
+}
+
+/// The loop of a sample, brought into its frames.
+fn loop_of(header: &SampleHeader) -> Loop
+    ensures kind { result.kind ≡ (if is_unlooped header.now then 0 else loop_kind_of header.now) }
+    ensures start { result.start ≡ (if is_unlooped header.now then 0 else loop_start_of header.now) }
+    ensures len { result.len ≡ (if is_unlooped header.now then 0 else loop_len_of header.now) }
+{
+    let frames = frames_of(header);
+    let kind = PING_PONG.min(header.kind % 4);
+    let start = frames.min(in_frames(header, header.loop_start));
+    let len = (frames - start).min(in_frames(header, header.loop_len));
+    if kind == 0 || len == 0 {
+        return Loop {
+            kind: 0,
+            start: 0,
+            len: 0,
+        };
+    }
+    Loop { kind, start, len }
+}
+
+/// The frames that steps give.
+fn frames_from(alloc: Global, wide: bool, steps: &[u8]) -> Result<Vec<i16>, XmFault>
+    ensures value { IfOk result (λ frames. frames.items ≡ (if wide then wide_frames steps.now else narrow_frames steps.now)) }
+    ensures wanting { IfErr result (λ fault. fault ≡ XmFault.NoMemory) }
+{
+    if wide {
+        wide_frames(alloc, steps)
+    } else {
+        narrow_frames(alloc, steps)
+    }
+}
+
+/// The sample of a header and its data, brought into range.
+#[tactic(auto, unfolding(ft_format::specs::Sample::sample_of))]
+pub fn sample_from(alloc: Global, header: &SampleHeader, steps: &[u8]) -> Result<Sample, XmFault>
+    ensures value { IfOk result (λ sample. sample ≡ sample_of header.now steps.now) }
+    ensures wanting { IfErr result (λ fault. fault ≡ XmFault.NoMemory) }
+{
+    let wide = is_wide(header);
+    let frames = frames_from(alloc, wide, steps)?;
+    let looped = loop_of(header);
+    Ok(Sample {
+        name: header.name,
+        volume: MOST_VOLUME.min(header.volume),
+        finetune: header.finetune.cast_signed(),
+        relative: header.relative.cast_signed(),
+        panning: header.panning,
+        wide,
+        loop_kind: looped.kind,
+        loop_start: looped.start,
+        loop_len: looped.len,
+        frames: Frames::from_vec(frames),
+    })
 }

@@ -67,7 +67,7 @@ fn a_song_at_every_limit_is_read_and_played(rt: HostRuntime) -> Result<(), Fail>
     for (at, frame) in outcome.wav.bytes().chunks_exact(4).skip(11).enumerate() {
         let voices = 128usize.saturating_sub(at).min(32);
         let [low, high] = (64 * voices as u16).to_le_bytes();
-        assert!(rt; *frame == [low, high, low, high], "frame {at}");
+        assert!(rt; frame == [low, high, low, high].as_slice(), "frame {at}");
     }
     Ok(())
 }

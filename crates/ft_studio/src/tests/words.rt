@@ -74,11 +74,7 @@ fn the_lines_on_standard_error_are_as_documented(rt: HostRuntime) -> Result<(), 
     for (status, line, code) in [
         (not_xm, "song refused: fault 1 9", 3),
         (short, "song refused: fault 3 58 2", 3),
-        (
-            Status::Song(SongFault::Xm(XmFault::NotYet)),
-            "song refused: fault 10",
-            3,
-        ),
+        (Status::Song(SongFault::NotYet), "song refused: not yet", 3),
         (Status::Song(SongFault::TooBig), "song refused: too big", 3),
         (Status::SongRead, "song could not be read", 4),
         (Status::WavWrite, "output could not be written", 5),

@@ -1,22 +1,16 @@
-use Rattle.std.proofs.Common.{◌≡◌, ℕ, List, Err, sym, subst, ◌∙◌}
-use Rattle.std.specs.Prelude.{Result}
-use Rattle.ft_types.specs.declared.module.Module.{Module as Song}
-use Rattle.ft_xmread.specs.Song.{HasFault, IsFaultOf}
-use Rattle.ft_studio.specs.declared.status.Status.{Status}
-use Rattle.ft_studio.specs.Run.{Refuses}
-use Rattle.ft_studio.proofs.Refusals.{told_file, is_fault, refuses}
+use Rattle.ft_studio.proofs.Refusals.{later, plain_accepted, unread}
 use Rattle.ft_studio.proofs.song.read_song.Goals as goal
 
-err_is : (a b : Status) → (let r : Result Song Status = Err a in r) ≡ Err b → a ≡ b
-err_is a b e = cc
+pub returns-in-Ok-clause-not_plain : goal.returns-in-Ok-clause-not_plain
+returns-in-Ok-clause-not_plain g c = λ file song told few spelled not_plain.
+    later c.in-Ok.song song c.plain_song.result (c.in-Ok.ensures.only file song told few spelled) c.plain_song.ensures.plain c.plain_song.ensures.not_yet not_plain
 
-pub returns-clause-fault : goal.returns-clause-fault
-returns-clause-fault g c = λ file fault told same.
-    let whole : c.deref.result.now ≡ file = c.deref.ensures.value ∙ told_file _ _ file _ told c.in-Ok.ensures.whole in
-    is_fault file c.in-Err.fault fault (sym c.refusal_of.ensures ∙ err_is _ _ same) (subst (λ (bytes : List ℕ). IsFaultOf bytes c.in-Err.fault) whole c.in-Err.ensures.fault)
+pub returns-in-Ok-clause-accepted : goal.returns-in-Ok-clause-accepted
+returns-in-Ok-clause-accepted g c = λ file song told few spelled plain.
+    plain_accepted c.in-Ok.song song c.plain_song.result (c.in-Ok.ensures.only file song told few spelled) c.plain_song.ensures.not_yet plain
 
-pub returns-clause-refused : goal.returns-clause-refused
-returns-clause-refused g c = λ file fault told few has.
-    let whole : c.deref.result.now ≡ file = c.deref.ensures.value ∙ told_file _ _ file _ told c.in-Ok.ensures.whole in
-    let at : HasFault c.deref.result.now fault = subst (λ (bytes : List ℕ). HasFault bytes fault) (sym whole) has in
-    subst (λ (status : Status). Refuses status fault) (sym c.refusal_of.ensures) (refuses c.in-Err.fault fault (c.in-Err.ensures.refused fault at))
+pub returns-in-Err-clause-not_plain : goal.returns-in-Err-clause-not_plain
+returns-in-Err-clause-not_plain g c = λ file song told few spelled not_plain. unread c.in-Err.status (c.in-Err.ensures.only file song told few spelled) c.in-Err.ensures.kinds
+
+pub returns-in-Err-clause-accepted : goal.returns-in-Err-clause-accepted
+returns-in-Err-clause-accepted g c = λ file song told few spelled plain. c.in-Err.ensures.only file song told few spelled

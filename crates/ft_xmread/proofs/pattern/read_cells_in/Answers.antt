@@ -13,10 +13,10 @@ returns-in_err-cell c =
 pub loop-preserved : goal.loop-preserved
 loop-preserved c =
     let read = times (λ _. cell_at c.args.number) 0 c.args.count c.args.reader.now in (
-        rw c.push_reserved.ensures.items
-        (goes_on (λ _. cell_at c.args.number) c.loop.cells.items c.args.count c.loop.counter c.loop.reader c.in_ok-cell.cell c.read_cell.new.reader read c.loop-test.true c.in_ok-cell.ensures c.loop.invariant.0),
-        search rules,
-        search rules,
+      rw c.push_reserved.ensures.items
+          (goes_on (λ _. cell_at c.args.number) c.loop.cells.items c.args.count c.loop.counter c.loop.reader c.in_ok-cell.cell c.read_cell.new.reader read c.loop-test.true c.in_ok-cell.ensures c.loop.invariant.0),
+      search rules,
+      search rules,
     )
 
 pub returns : goal.returns

@@ -1,0 +1,10 @@
+pub mod Bytes
+pub mod Numbers
+pub mod Lists
+pub mod Frames
+pub mod Valids
+pub mod Cells
+pub mod Patterns
+pub mod Samples
+pub mod Instruments
+pub mod Songs
