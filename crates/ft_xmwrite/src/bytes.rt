@@ -1,0 +1,44 @@
+//! What every part is made of: bytes, and numbers of two and four bytes, the low byte first.
+
+ghost use Rattle.std.specs.Prelude.{◌≡◌, ◌≤◌, ◌++◌, replicate, OnOk};
+ghost use Rattle.ft_format.specs.Canon.{byte, u16 as bytes_of_u16, u32 as bytes_of_u32};
+
+use ft_types::NoMemory;
+
+/// Appends bytes as they are.
+pub fn put(bytes: &mut Vec<u8>, more: &[u8]) -> Result<(), NoMemory>
+    ensures { OnOk result (bytes.new.items ≡ bytes.old.items ++ more.now) }
+{
+    bytes.extend_from_slice(more)?;
+    Ok(())
+}
+
+/// Appends one byte.
+pub fn put_byte(bytes: &mut Vec<u8>, value: u8) -> Result<(), NoMemory>
+    ensures { OnOk result (bytes.new.items ≡ bytes.old.items ++ byte value) }
+{
+    bytes.push(value)?;
+    Ok(())
+}
+
+/// Appends a number of two bytes.
+pub fn put_u16(bytes: &mut Vec<u8>, value: u16) -> Result<(), NoMemory>
+    ensures { OnOk result (bytes.new.items ≡ bytes.old.items ++ bytes_of_u16 value) }
+{
+    put(bytes, &value.to_le_bytes())
+}
+
+/// Appends a number of four bytes.
+pub fn put_u32(bytes: &mut Vec<u8>, value: u32) -> Result<(), NoMemory>
+    ensures { OnOk result (bytes.new.items ≡ bytes.old.items ++ bytes_of_u32 value) }
+{
+    put(bytes, &value.to_le_bytes())
+}
+
+/// Appends as many bytes of 0.
+pub fn put_zeros(bytes: &mut Vec<u8>, count: usize) -> Result<(), NoMemory>
+    requires { count ≤ 256 }
+    ensures { OnOk result (bytes.new.items ≡ bytes.old.items ++ replicate count 0) }
+{
+    put(bytes, &[0; 256][..count])
+}
