@@ -1,0 +1,4 @@
+pub mod Chain
+pub mod Given
+pub mod Arguments
+pub mod Split

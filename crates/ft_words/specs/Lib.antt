@@ -1,0 +1,4 @@
+pub mod Commands
+pub mod Refused
+pub mod Files
+pub mod Answer
