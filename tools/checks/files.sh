@@ -74,5 +74,24 @@ absent out.wav
 expect 5 'xmstudio: output could not be written' step "$silence" no-such-folder/out.wav out.ledger
 expect 5 'xmstudio: output could not be written' step "$silence" /dev/full out.ledger
 
+# copy and gen
+for song in silence first scale; do
+    expect 0 '' copy "$here/examples/$song.xm" copy.xm
+    cmp "$here/examples/$song.xm" copy.xm || { echo "$song.xm is copied otherwise"; failed=1; }
+done
+expect 4 'xmstudio: song could not be read' copy missing.xm out.wav
+absent out.wav
+expect 3 'xmstudio: song refused: fault 1 0' copy other.xm out.wav
+absent out.wav
+expect 5 'xmstudio: output could not be written' copy "$silence" /dev/full
+[ "$("$here/xmstudio" gen 7 seven.xm)" = 'gen 7 bytes 571238 blocks 409' ] || { echo "gen 7 has another line"; failed=1; }
+[ "$(stat -c %s seven.xm)" = 571238 ] || { echo "gen 7 has other bytes"; failed=1; }
+expect 3 'xmstudio: song refused: not yet' step seven.xm out.wav out.ledger
+"$here/xmstudio" gen 7 seven.xm >/dev/full 2>stderr
+[ "$?" = 6 ] || { echo "a line that can't be written isn't told"; failed=1; }
+[ "$(cat stderr)" = 'xmstudio: ledger could not be written' ] || { echo "standard error is: $(cat stderr)"; failed=1; }
+expect 2 - gen seven out.wav
+absent out.wav
+
 [ "$failed" = 0 ] && echo "the program on real files: all as documented"
 exit "$failed"

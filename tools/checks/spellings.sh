@@ -21,6 +21,13 @@ wrong() {
     failed=1
 }
 
+# copied SONG: a song that is read is copied as its canonical bytes
+copied() {
+    python3 "$here/tools/slow_writer.py" "$1" >"$work/slow.xm" || failed=1
+    "$here/xmstudio" copy "$1" "$work/fast.xm" || { echo "$(basename "$1"): copy ends with $?"; failed=1; }
+    cmp "$work/slow.xm" "$work/fast.xm" || { echo "$(basename "$1") is copied otherwise"; failed=1; }
+}
+
 # check SONG ANSWER: a plain song is played, and every other is refused by this line
 check() {
     local got
@@ -44,6 +51,7 @@ done
 for song in "${songs[@]}"; do
     read -r answer
     check "$song" "$answer"
+    case "$answer" in plain | 'not yet') copied "$song" ;; esac
 done <"$work/answers"
-[ "$failed" = 0 ] && echo "the program reads as its format says: ${#songs[@]} songs, $(grep -c plain "$work/answers") of them played"
+[ "$failed" = 0 ] && echo "the program reads as its format says: ${#songs[@]} songs, $(grep -c plain "$work/answers") of them played, $(grep -c -e plain -e not "$work/answers") copied"
 exit "$failed"

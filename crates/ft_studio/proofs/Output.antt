@@ -11,12 +11,11 @@ use Rattle.ft_out.specs.Wav.{wav_bytes, wav_head_bytes, sound_bytes}
 use Rattle.ft_replay.specs.Replay.{Renders}
 use Rattle.ft_replay.specs.State.{first_song}
 use Rattle.ft_replay.proofs.Playing.{can_play, makes_renders, sound_left}
-use Rattle.ft_studio.specs.declared.words.Step.{Step}
-use Rattle.ft_studio.specs.Words.{IsAsked}
-use Rattle.ft_studio.specs.Run.{IsWavOf, frames_of}
+use Rattle.ft_words.specs.declared.answer.Step.{Step}
+use Rattle.ft_studio.specs.Run.{IsInRange, IsWavOf, frames_of}
 
 -- at least one frame is asked for
-pub some_frames : (step : Step) → IsAsked step → 1 ≤ frames_of step
+pub some_frames : (step : Step) → IsInRange step → 1 ≤ frames_of step
 some_frames step asked =
     let more : step.rate * 1 ≤ step.rate * step.seconds = mul-le-mul_left step.rate asked.some_seconds in
     omega (arith, more, asked.low_rate)
@@ -41,7 +40,7 @@ file_of : (song : Module) (step : Step) (sound : List ℤ) → Renders song step
 file_of song step sound renders = record { sound = sound; renders = renders; spelled = refl }
 
 -- a front of the head is a front of the file, since every song has a sound
-pub head_cut : (song : Module) (step : Step) (a b : Option (List ℕ)) → IsValid song → IsAsked step → TakesFront a b (wav_head_bytes step.rate (frames_of step))
+pub head_cut : (song : Module) (step : Step) (a b : Option (List ℕ)) → IsValid song → IsInRange step → TakesFront a b (wav_head_bytes step.rate (frames_of step))
     → (bytes : List ℕ) × IsWavOf song step bytes × TakesFront a b bytes
 head_cut song step a b valid asked part =
     let can = can_play song step.rate (frames_of step) valid asked.low_rate asked.high_rate in

@@ -1,4 +1,2 @@
 pub mod Codes
-pub mod Numbers
 pub mod Run
-pub mod Words

@@ -1,17 +1,18 @@
 //! xmstudio: plays songs of the Extended Module format.
 #![tactic(auto)]
 
-mod names;
+mod copying;
+mod generating;
 mod play;
 mod run;
 mod song;
 mod status;
+mod stepping;
 #[cfg(test)]
 mod tests;
-mod words;
 
-use ft_outer::{FileSink, FileSource, SureSink, SureSource};
-use names::{FileNames, NamesFault, Texts, names};
+use ft_outer::{FileSink, FileSource, OutSink, SureSink, SureSource};
+use ft_words::{FileNames, NamesFault, Texts, names};
 use run::run_plain;
 use status::Status;
 use std::process::ExitCode;
@@ -34,10 +35,15 @@ fn first_of(rt: &HostRuntime, texts: &Texts) -> Result<String, NamesFault> {
     }
 }
 
-/// Runs the words on the files that they name.
+/// Runs the words on the files that they name. A command without a ledger has standard output in its
+/// place.
 fn run_files(rt: HostRuntime, words: &[String], files: &FileNames) -> Result<Status, NamesFault> {
     let mut song = FileSource::new(rt, first_of(&rt, &files.song)?);
     let mut wav = FileSink::new(rt, first_of(&rt, &files.wav)?);
+    if files.ledger.len() == 0 {
+        let mut out = OutSink::new(rt);
+        return Ok(run_plain(rt.alloc(), words, &mut song, &mut wav, &mut out));
+    }
     let mut ledger = FileSink::new(rt, first_of(&rt, &files.ledger)?);
     Ok(run_plain(rt.alloc(), words, &mut song, &mut wav, &mut ledger))
 }

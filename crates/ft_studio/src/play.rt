@@ -8,14 +8,13 @@ ghost use Rattle.ft_outer.specs.Counts.{HasCause};
 ghost use Rattle.ft_outer.specs.Pieces.{TakesFront};
 ghost use Rattle.ft_out.specs.Wav.{sound_bytes};
 ghost use Rattle.ft_replay.specs.Replay.{Renders};
-ghost use Rattle.ft_studio.specs.Words.{IsAsked};
-ghost use Rattle.ft_studio.specs.Run.{IsWavOf};
+ghost use Rattle.ft_studio.specs.Run.{IsInRange, IsWavOf};
 
-use crate::words::Step;
 use ft_out::{TICK_BYTES, put_frames_through, wav_head};
 use ft_outer::{Sink, WriteFault, put_all};
 use ft_plain::Replayer;
 use ft_types::Module;
+use ft_words::Step;
 
 /// Room for the numbers of the longest tick: 3,750 frames, left and right, and a frame more.
 const TICK_NUMBERS: usize = 7_502;
@@ -51,7 +50,7 @@ fn put_song<W: Sink>(song: &Module, rate: u32, frames: u32, wav: &mut W) -> Resu
 pub fn play<W: Sink>(song: &Module, step: Step, wav: &mut W) -> Result<(), WriteFault>
     requires valid { IsValid song.now }
     requires plain { IsPlain song.now }
-    requires asked { IsAsked step }
+    requires asked { IsInRange step }
     ensures whole { OnOk result ((bytes : List ℕ) × IsWavOf song.now step bytes × Appends (W.held wav.old) (W.held wav.new) bytes) }
     ensures front { OnErr result ((bytes : List ℕ) × IsWavOf song.now step bytes × TakesFront (W.held wav.old) (W.held wav.new) bytes) }
     ensures cause { HasCause (W.faults wav.old) (W.faults wav.new) result }

@@ -74,7 +74,7 @@ fn plain_song(song: Module) -> Result<Module, Status>
 }
 
 /// The song of a source that is read to its end, plain or not.
-fn read_any_song<S: Source>(alloc: Global, source: &mut S) -> Result<Module, Status>
+pub fn read_any_song<S: Source>(alloc: Global, source: &mut S) -> Result<Module, Status>
     requires { S.given source.old < 2 ^ 63 }
     ensures valid { IfOk result IsValid }
     ensures told { IfOk result (λ song. IfSome (S.left source.old) (λ file. Spells file song)) }

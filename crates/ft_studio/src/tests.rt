@@ -1,6 +1,8 @@
 //! Runs over sources and sinks in memory.
 
 mod build;
+mod copying;
+mod generating;
 mod helpers;
 mod limits;
 mod notes;

@@ -1,8 +1,8 @@
 //! Command lines.
 
 use super::helpers::{run, silent_song, words_of};
-use crate::names::{NamesFault, names};
 use crate::status::{SongFault, Status};
+use ft_words::{NamesFault, names};
 use ft_xmread::XmFault;
 use std::test::Fail;
 
@@ -17,18 +17,21 @@ fn words_that_are_no_command_are_refused(rt: HostRuntime) -> Result<(), Fail> {
         "step a b c d",
         "step a b c --rate=7999",
         "step a b c --rate=48001",
-        "step a b c --rate=08000",
-        "step a b c --rate=+8000",
         "step a b c --rate=",
         "step a b c --rate=8000x",
         "step a b c --rate=99999999999999999999",
         "step a b c --seconds=0",
         "step a b c --seconds=1201",
-        "step a b c --seconds=1 --rate=8000",
         "step a b c --rate=8000 --rate=8000",
         "step a b c --rate=8000 --seconds=1 d",
         "step a b --rate=8000",
-        "step --rate=8000 a b c",
+        "copy a",
+        "copy a b c",
+        "copy a b --rate=8000",
+        "gen 7",
+        "gen x out",
+        "gen -1 out",
+        "gen 4294967296 out",
         "step a b c --help",
         "Step a b c",
     ] {
@@ -45,6 +48,28 @@ fn words_that_are_no_command_are_refused(rt: HostRuntime) -> Result<(), Fail> {
         assert_eq!(rt; outcome.wav.bytes().len(), 0);
         let words = words_of(rt.alloc(), text)?;
         assert!(rt; matches!(names(rt.alloc(), &words), Err(NamesFault::Usage)));
+    }
+    Ok(())
+}
+
+/// The options come in any order, and behind `=` or a blank.
+#[test]
+fn options_stand_anywhere(rt: HostRuntime) -> Result<(), Fail> {
+    for text in [
+        "step a b c --rate=8000 --seconds=1",
+        "step a b c --seconds=1 --rate=8000",
+        "step --rate=8000 a --seconds 1 b c",
+    ] {
+        let none = Vec::new(rt.alloc());
+        let outcome = run(
+            rt.alloc(),
+            text,
+            silent_song(rt.alloc())?,
+            none,
+            Vec::new(rt.alloc()),
+        )?;
+        assert!(rt; outcome.status == Status::Done, "{text}");
+        assert_eq!(rt; outcome.wav.bytes().len(), 32_044);
     }
     Ok(())
 }
