@@ -100,7 +100,8 @@ pub fn run_plain<S: Source, W: Sink, L: Sink>(
     ensures no_memory { result ≡ Status.NoMemory → AskForGen (texts words.now) → (wav.new ≡ wav.old)
         ⊎ ((number : ℕ) × IsAskedBy (texts words.now) (Asked.Gen number) × Appends (W.held wav.old) (W.held wav.new) (canon (generated number))) }
     ensures ledger { (AskForGen (texts words.now) → ⊥) → ledger.new ≡ ledger.old }
-    ensures ledger_last { IsBeforePlay result → ledger.new ≡ ledger.old }
+    ensures ledger_last { result ≢ Status.Done → result ≢ Status.LedgerWrite → ledger.new ≡ ledger.old }
+    ensures gen_reads_nothing { AskForGen (texts words.now) → song.new ≡ song.old }
     ensures kinds { IsOfRun result }
 {
     match asked(alloc, words) {
