@@ -8,7 +8,10 @@ use Rattle.ft_types.specs.declared.instrument.Instrument.{Instrument}
 use Rattle.ft_types.specs.declared.instrument.Envelope.{Envelope}
 use Rattle.ft_types.specs.declared.instrument.Point.{Point}
 use Rattle.ft_types.specs.declared.instrument.Vibrato.{Vibrato}
+use Rattle.ft_types.specs.declared.instrument.Shape.{Shape}
+use Rattle.ft_types.specs.declared.module.SongHead.{SongHead}
 use Rattle.ft_types.specs.declared.sample.Sample.{Sample}
+use Rattle.ft_types.specs.declared.voice.SampleHead.{SampleHead}
 
 -- as many raw bytes
 pub record IsBytes (count : ℕ) (bytes : List ℕ) : Type 0 where
@@ -58,13 +61,13 @@ pub record IsValidVibrato (vibrato : Vibrato) : Type 0 where
 abbrev pub width_of : Bool → Width
 width_of wide = if wide then w16 else w8
 
--- a loop has at least one frame and lies within the sample; without one both numbers are 0
-pub record IsValidLoop (sample : Sample) : Type 0 where
-  pub kind : sample.loop_kind ≤ 2
-  pub none_start : sample.loop_kind ≡ 0 → sample.loop_start ≡ 0
-  pub none_len : sample.loop_kind ≡ 0 → sample.loop_len ≡ 0
-  pub some_len : 1 ≤ sample.loop_kind → 1 ≤ sample.loop_len
-  pub within : 1 ≤ sample.loop_kind → sample.loop_start + sample.loop_len ≤ length sample.frames
+-- a loop has at least one frame and lies within the frames; without one both numbers are 0
+pub record IsValidLoop (loop_kind loop_start loop_len frames : ℕ) : Type 0 where
+  pub kind : loop_kind ≤ 2
+  pub none_start : loop_kind ≡ 0 → loop_start ≡ 0
+  pub none_len : loop_kind ≡ 0 → loop_len ≡ 0
+  pub some_len : 1 ≤ loop_kind → 1 ≤ loop_len
+  pub within : 1 ≤ loop_kind → loop_start + loop_len ≤ frames
 
 pub record IsValidSample (sample : Sample) : Type 0 where
   pub name : IsBytes 22 sample.name
@@ -72,7 +75,7 @@ pub record IsValidSample (sample : Sample) : Type 0 where
   pub finetune : FitsSigned w8 sample.finetune
   pub relative : FitsSigned w8 sample.relative
   pub panning : sample.panning < 256
-  pub looping : IsValidLoop sample
+  pub looping : IsValidLoop sample.loop_kind sample.loop_start sample.loop_len (length sample.frames)
   pub few_frames : length sample.frames ≤ 983040
   pub frames : All (FitsSigned (width_of sample.wide)) sample.frames
 
@@ -129,3 +132,30 @@ pub record IsValid (song : Module) : Type 0 where
   pub patterns : All (IsValidPattern song.channels) song.patterns
   pub few_instruments : length song.instruments ≤ 128
   pub instruments : All IsValidInstrument song.instruments
+
+-- ---- what is read of a song while it plays
+
+-- the head of a valid song
+pub record IsValidSongHead (head : SongHead) : Type 0 where
+  pub some_orders : 1 ≤ head.length
+  pub few_orders : head.length ≤ 256
+  pub restart : head.restart < head.length
+  pub some_tempo : 1 ≤ head.tempo
+  pub low_tempo : head.tempo ≤ 31
+  pub some_bpm : 32 ≤ head.bpm
+  pub low_bpm : head.bpm ≤ 255
+
+-- the shape of a valid instrument
+pub record IsValidShape (shape : Shape) : Type 0 where
+  pub vibrato : IsValidVibrato shape.vibrato
+  pub fadeout : shape.fadeout < 65536
+
+-- the head of a valid sample with frames: one that can sound
+pub record IsValidHead (head : SampleHead) : Type 0 where
+  pub some_frames : 1 ≤ head.frames
+  pub few_frames : head.frames ≤ 983040
+  pub looping : IsValidLoop head.loop_kind head.loop_start head.loop_len head.frames
+  pub volume : head.volume ≤ 64
+  pub panning : head.panning < 256
+  pub finetune : FitsSigned w8 head.finetune
+  pub relative : FitsSigned w8 head.relative

@@ -1,11 +1,25 @@
 -- What is read of a song while it plays: rows, cells, and the samples that voices own.
-use Rattle.std.specs.Prelude.{ℕ, zero, suc, ◌+◌, ◌*◌, ◌==◌, List, Option, None, Some, length, slice_get, get_or, set, nat_lt, if◌then◌else◌, unwrap_or, ℤ, pos}
+use Rattle.std.specs.Prelude.{◌≡◌, ℕ, zero, suc, ◌+◌, ◌*◌, ◌==◌, List, Option, None, Some, length, slice_get, get_or, set, nat_lt, if◌then◌else◌, unwrap_or, ℤ, pos}
 use Rattle.ft_types.specs.declared.module.Module.{Module}
+use Rattle.ft_types.specs.declared.module.SongHead.{SongHead}
 use Rattle.ft_types.specs.declared.pattern.Pattern.{Pattern}
 use Rattle.ft_types.specs.declared.pattern.Cell.{Cell}
 use Rattle.ft_types.specs.declared.instrument.Instrument.{Instrument}
+use Rattle.ft_types.specs.declared.instrument.Envelope.{Envelope}
+use Rattle.ft_types.specs.declared.instrument.Shape.{Shape}
 use Rattle.ft_types.specs.declared.sample.Sample.{Sample}
 use Rattle.ft_types.specs.declared.voice.SampleHead.{SampleHead}
+
+-- ---- the song as a whole
+
+abbrev pub song_head_of : Module → SongHead
+song_head_of song = record {
+  length = length song.orders;
+  restart = song.restart;
+  tempo = song.tempo;
+  bpm = song.bpm;
+  linear = song.linear;
+}
 
 -- ---- rows and cells
 
@@ -34,6 +48,22 @@ cell_at song pattern row channel = cell_in song.channels (slice_get song.pattern
 abbrev pub order_at : Module → ℕ → ℕ
 order_at song position = get_or song.orders position 0
 
+-- ---- instruments
+
+-- the instrument of a number; they count from 1
+abbrev pub instrument_at : Module → ℕ → Option Instrument
+instrument_at song zero = None
+instrument_at song (suc number) = slice_get song.instruments number
+
+-- which is 0 for the volume envelope, and 1 for that of the panning
+abbrev pub envelope_in : Option Instrument → ℕ → Option Envelope
+envelope_in None which = None
+envelope_in (Some instrument) which = Some (if which == 0 then instrument.volume else instrument.panning)
+
+abbrev pub shape_in : Option Instrument → Option Shape
+shape_in None = None
+shape_in (Some instrument) = Some (record { vibrato = instrument.vibrato; fadeout = instrument.fadeout })
+
 -- ---- samples
 
 -- the version, the instrument from 1 and the sample from 0 from which a voice was begun
@@ -46,11 +76,6 @@ pub record Origin : Type 0 where
 pub record Owned : Type 0 where
   pub origin : Origin
   pub sample : Sample
-
--- the instrument of a number; they count from 1
-abbrev pub instrument_at : Module → ℕ → Option Instrument
-instrument_at song zero = None
-instrument_at song (suc number) = slice_get song.instruments number
 
 abbrev pub sample_in : Option Instrument → ℕ → Option Sample
 sample_in None number = None
@@ -109,3 +134,7 @@ pub record Shown : Type 0 where
 -- what is shown once a channel keeps this
 abbrev pub keeping : ℕ → Option Owned → Shown → Shown
 keeping channel owned shown = record shown { kept = set shown.kept channel owned }
+
+-- what a view may show: what it shows where something stands behind it
+abbrev pub MayShow : {V W : Type 0} → (V → W → Type 0) → (V → W → Shown) → V → Shown → Type 0
+MayShow {W = W} shows shown view it = (w : W) × shows view w × (shown view w ≡ it)

@@ -63,3 +63,12 @@ pub struct Vibrato {
     /// Rate, 0 to 63.
     pub rate: u8,
 }
+
+/// What an instrument does to each tick of a voice, beside its envelopes.
+#[derive(Clone, Copy, Debug, PartialEq, Eq)]
+pub struct Shape {
+    /// Automatic vibrato.
+    pub vibrato: Vibrato,
+    /// Volume fadeout per tick after a key off, of 32,768.
+    pub fadeout: u16,
+}

@@ -10,26 +10,31 @@
 mod block_count;
 mod instrument;
 mod items;
+mod kept;
 mod module;
+mod module_view;
 mod no_memory;
 mod pattern;
 mod plain;
 mod sample;
+mod shelf;
+mod slots;
 mod steps;
 mod validity;
+mod view;
 mod voice;
+mod words;
 
 pub use block_count::blocks;
-pub use instrument::{Envelope, Instrument, Instruments, Point, Vibrato};
+pub use instrument::{Envelope, Instrument, Instruments, Point, Shape, Vibrato};
 pub use items::Items;
-pub use module::{Module, Orders};
+pub use module::{Module, Orders, SongHead};
+pub use module_view::ModuleView;
 pub use no_memory::NoMemory;
 pub use pattern::{Cell, Cells, Pattern, Patterns};
 pub use plain::is_plain;
 pub use sample::{Frames, Sample, Samples};
 pub use steps::Steps;
 pub use validity::valid;
+pub use view::SongView;
 pub use voice::{SampleHead, Voice};
-
-#[cfg(test)]
-mod tests;

@@ -33,3 +33,18 @@ pub struct Module {
     /// Instruments, at most 128. Cells count them from 1.
     pub instruments: Instruments,
 }
+
+/// What a song says of itself as a whole while it plays.
+#[derive(Clone, Copy, Debug, PartialEq, Eq)]
+pub struct SongHead {
+    /// Number of orders, 1 to 256.
+    pub length: u16,
+    /// Restart position: an order position below the length.
+    pub restart: u16,
+    /// Default tempo: ticks per row, 1 to 31.
+    pub tempo: u8,
+    /// Default BPM, 32 to 255.
+    pub bpm: u8,
+    /// Whether periods are linear; otherwise they are Amiga periods.
+    pub linear: bool,
+}

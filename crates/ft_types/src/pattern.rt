@@ -31,3 +31,14 @@ pub struct Cell {
     /// Effect parameter.
     pub parameter: u8,
 }
+
+impl Cell {
+    /// The cell that says nothing.
+    pub const EMPTY: Cell = Cell {
+        note: 0,
+        instrument: 0,
+        volume: 0,
+        effect: 0,
+        parameter: 0,
+    };
+}

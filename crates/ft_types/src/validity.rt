@@ -123,7 +123,8 @@ fn has_valid_frames(frames: &[i16], wide: bool) -> bool
 
 /// Whether the loop of a sample has at least one frame and lies within the sample, or is none.
 fn is_valid_loop(sample: &Sample) -> bool
-    ensures { IsTrue result ↔ IsValidLoop sample.now }
+    ensures { IsTrue result
+        ↔ IsValidLoop sample.now.loop_kind sample.now.loop_start sample.now.loop_len (length sample.now.frames) }
 {
     if sample.loop_kind > 2 {
         return false;

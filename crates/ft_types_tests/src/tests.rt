@@ -1,4 +1,4 @@
-use crate::{
+use ft_types::{
     Cell, Envelope, Instrument, Items, Module, Orders, Pattern, Point, Sample, Vibrato, blocks,
     is_plain, valid,
 };

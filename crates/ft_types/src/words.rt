@@ -1,0 +1,37 @@
+//! The words of frames that a channel asked for.
+
+ghost use Rattle.std.specs.Prelude.{◌≡◌, []};
+ghost use Rattle.ft_types.specs.Work as work_of;
+ghost use Rattle.ft_types.specs.Words.{words_in};
+
+/// The last two words of frames that were asked for, four frames each; none at first.
+#[derive(Clone, Copy)]
+pub struct Words {
+    /// Number of the last word.
+    pub newest: Option<u32>,
+    /// Number of the word before it, where there is a last.
+    pub older: Option<u32>,
+}
+
+impl Words {
+    /// No word was asked for.
+    pub fn none() -> Words
+        ensures { words_in result ≡ [] }
+    {
+        Words {
+            newest: None,
+            older: None,
+        }
+    }
+
+    /// This word is asked for.
+    pub fn ask(&mut self, word: u32)
+        ensures { words_in self.new ≡ work_of.asked word (words_in self.old) }
+    {
+        if self.newest == Some(word) {
+            return;
+        }
+        self.older = self.newest;
+        self.newest = Some(word);
+    }
+}
