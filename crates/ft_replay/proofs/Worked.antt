@@ -1,39 +1,16 @@
 -- Worked rows of the definitions, by computation.
-use Rattle.std.proofs.Common.{◌≡◌, ℕ, ◌*◌, ◌^◌, pos, negsuc, None, Some, false, [], ◌∷◌, refl}
+use Rattle.std.proofs.Common.{◌≡◌, ℕ, zero, suc, ◌*◌, ◌^◌, pos, negsuc, ◌*ℤ◌, None, Some, false, List, [], ◌∷◌, refl}
 use Rattle.std.specs.Prelude.{replicate}
 use Rattle.ft_types.specs.declared.sample.Sample.{Sample}
 use Rattle.ft_types.specs.Views.{head_of}
-use Rattle.ft_replay.specs.State.{Lane, first_channel}
-use Rattle.ft_replay.specs.Pitch.{linear_period, linear_frequency, power_at, step_of}
+use Rattle.ft_replay.specs.declared.state.Place.{Place}
+use Rattle.ft_replay.specs.State.{Lane, first_channel, first_control}
 use Rattle.ft_replay.specs.Row.{new_voice}
-use Rattle.ft_replay.specs.Sound.{sound_of, frame_at, value_at, place_of, between, part, gained, moved}
-use Rattle.ft_replay.specs.Tick.{gain_of}
-
--- C-4, C#4, and finetunes on both sides
-c_4 : linear_period 48 (pos 0) ≡ 4608
-unfolding linear_period
-c_4 = refl
-
-c_sharp_4 : linear_period 49 (pos 0) ≡ 4544
-unfolding linear_period
-c_sharp_4 = refl
-
-tuned_down : linear_period 48 (negsuc 0) ≡ 4609
-unfolding linear_period
-tuned_down = refl
-
-frequency_c_4 : linear_frequency 4608 ≡ 548077568
-unfolding linear_frequency power_at
-frequency_c_4 = refl
-
-frequency_c_sharp_4 : linear_frequency 4544 ≡ 580668179
-unfolding linear_frequency power_at
-frequency_c_sharp_4 = refl
-
--- at its own rate a sample moves by one frame
-one_frame : step_of 8363 4608 ≡ 2 ^ 32
-unfolding step_of linear_frequency power_at
-one_frame = refl
+use Rattle.ft_replay.specs.Hearing.{gain_of}
+use Rattle.ft_replay.specs.Sound.{sound_of, frame_at, value_at, place_of, between, part, gained, clipped, lane_after}
+use Rattle.ft_replay.specs.Replay.{cut_last}
+use Rattle.ft_replay.specs.Time.{tick_frames, with_carry}
+use Rattle.ft_replay.specs.declared.state.Control.{Control}
 
 -- where volume and global volume are full, the gain is full
 full_gain : gain_of 64 64 64 32768 ≡ 65536
@@ -75,6 +52,51 @@ unfolding sounding four_frames sound_of frame_at value_at place_of between part 
 two_and_silence = refl
 
 -- after which the voice has ended
-ended : (moved 4 (sounding (2 ^ 32))).channel.voice ≡ None
-unfolding sounding four_frames moved
+ended : (lane_after 4 (sounding (2 ^ 32))).channel.voice ≡ None
+unfolding sounding four_frames lane_after
 ended = refl
+
+-- ---- how long ticks are
+
+-- the frames of so many ticks, one after the other
+ticks_at : ℕ → ℕ → Control → List ℕ
+ticks_at zero rate control = []
+ticks_at (suc ticks) rate control = tick_frames rate control ∷ ticks_at ticks rate (with_carry rate control)
+
+-- the rest is carried on: each thirteenth tick has a frame more
+at_bpm_130 : ticks_at 26 44100 (record first_control { bpm = 130 })
+    ≡ 848 ∷ 848 ∷ 848 ∷ 848 ∷ 848 ∷ 848 ∷ 848 ∷ 848 ∷ 848 ∷ 848 ∷ 848 ∷ 848 ∷ 849
+    ∷ 848 ∷ 848 ∷ 848 ∷ 848 ∷ 848 ∷ 848 ∷ 848 ∷ 848 ∷ 848 ∷ 848 ∷ 848 ∷ 848 ∷ 849 ∷ []
+unfolding ticks_at tick_frames
+at_bpm_130 = refl
+
+at_bpm_33 : ticks_at 13 44100 (record first_control { bpm = 33 })
+    ≡ 3340 ∷ 3341 ∷ 3341 ∷ 3341 ∷ 3341 ∷ 3341 ∷ 3341 ∷ 3341 ∷ 3341 ∷ 3341 ∷ 3341 ∷ 3340 ∷ 3341 ∷ []
+unfolding ticks_at tick_frames
+at_bpm_33 = refl
+
+-- ---- many voices
+
+-- 32 channels at full volume are clipped once, above and below
+loudest : clipped (pos 32 *ℤ gained (pos 32512) 32768) ≡ pos 32767
+unfolding gained
+loudest = refl
+
+deepest : clipped (pos 32 *ℤ gained (negsuc 32767) 32768) ≡ negsuc 32767
+unfolding gained
+deepest = refl
+
+-- ---- cut places
+
+tick_at : ℕ → ℕ → Place
+tick_at tick frames = record { order = 0; row = 0; tick = tick; frames = frames }
+
+-- of 200 frames the first two ticks of 160 are whole, and leave the last none
+only_the_last_is_cut : cut_last 200 (tick_at 0 160 ∷ tick_at 1 160 ∷ tick_at 2 160 ∷ []) ≡ tick_at 0 160 ∷ tick_at 1 160 ∷ tick_at 2 0 ∷ []
+unfolding tick_at
+only_the_last_is_cut = refl
+
+-- of 200 frames two ticks of 160 leave the last 40
+the_last_has_the_rest : cut_last 200 (tick_at 0 160 ∷ tick_at 1 160 ∷ []) ≡ tick_at 0 160 ∷ tick_at 1 40 ∷ []
+unfolding tick_at
+the_last_has_the_rest = refl

@@ -1,9 +1,11 @@
 pub mod State
-pub mod Pitch
+pub mod Time
 pub mod Row
-pub mod Tick
+pub mod Hearing
 pub mod Sound
+pub mod Tick
 pub mod Replay
+pub mod Standing
+pub mod Calls
 pub mod Range
-pub mod Stands
 pub mod Laws

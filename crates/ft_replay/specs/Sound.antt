@@ -1,12 +1,12 @@
 -- The sound of a tick, by positions in closed form.
-use Rattle.std.specs.Prelude.{ℕ, zero, suc, ◌+◌, ◌*◌, ◌/◌, ◌%◌, ◌^◌, ℤ, pos, negsuc, ◌+ℤ◌, ◌-ℤ◌, ◌*ℤ◌, ◌||◌, not, Bool, List, [], ◌∷◌, ◌++◌, Option, Some, None, nat_lt, if◌then◌else◌}
+use Rattle.std.specs.Prelude.{ℕ, zero, suc, ◌+◌, ◌*◌, ◌/◌, ◌%◌, ◌^◌, ℤ, pos, negsuc, ◌+ℤ◌, ◌-ℤ◌, ◌*ℤ◌, ◌||◌, not, Bool, false, List, [], ◌∷◌, ◌++◌, Option, Some, None, get_or, set, nat_lt, if◌then◌else◌}
 use Rattle.std.specs.Int.{int_min, int_max}
 use Rattle.ft_types.specs.declared.voice.SampleHead.{SampleHead}
 use Rattle.ft_types.specs.declared.voice.Voice.{Voice}
-use Rattle.ft_types.specs.Views.{Owned, frame_of}
+use Rattle.ft_types.specs.Views.{Owned, Shown, frame_of, keeping}
+use Rattle.ft_tables.specs.Pitch.{floor_div}
 use Rattle.ft_replay.specs.State.{Lane}
-use Rattle.ft_replay.specs.Pitch.{floor_div}
-use Rattle.ft_replay.specs.Row.{silenced}
+use Rattle.ft_replay.specs.Row.{without_voice}
 
 -- ---- the value of a voice
 
@@ -37,7 +37,7 @@ value_at head owned position =
     (value_in head owned (place_of head (position / 2 ^ 32 + 1)))
     (position % 2 ^ 32)
 
--- ---- the sum over voices
+-- ---- what a voice adds
 
 -- what a value adds to a side by its gain
 unfoldable pub gained : ℤ → ℕ → ℤ
@@ -50,6 +50,15 @@ left_of i owned voice = gained (value_at voice.head owned (voice.pos + i * voice
 abbrev pub right_of : ℕ → Option Owned → Voice → ℤ
 right_of i owned voice = gained (value_at voice.head owned (voice.pos + i * voice.step)) voice.right
 
+abbrev pub clipped : ℤ → ℤ
+clipped value = int_max (negsuc 32767) (int_min value (pos 32767))
+
+-- one frame: left, then right, each clipped once
+abbrev pub stereo : ℤ → ℤ → List ℤ
+stereo left right = clipped left ∷ clipped right ∷ []
+
+-- ---- the sum over lanes
+
 abbrev pub lane_adds : (Option Owned → Voice → ℤ) → Option Owned → Option Voice → ℤ
 lane_adds side owned None = pos 0
 lane_adds side owned (Some voice) = side owned voice
@@ -58,17 +67,27 @@ abbrev pub lanes_sum : (Option Owned → Voice → ℤ) → List Lane → ℤ
 lanes_sum side [] = pos 0
 lanes_sum side (lane ∷ lanes) = lane_adds side lane.owned lane.channel.voice +ℤ lanes_sum side lanes
 
-abbrev pub clipped : ℤ → ℤ
-clipped value = int_max (negsuc 32767) (int_min value (pos 32767))
-
--- frame i: left, then right, each clipped once
+-- frame i
 unfoldable pub frame_at : List Lane → ℕ → List ℤ
-frame_at lanes i = clipped (lanes_sum (left_of i) lanes) ∷ clipped (lanes_sum (right_of i) lanes) ∷ []
+frame_at lanes i = stereo (lanes_sum (left_of i) lanes) (lanes_sum (right_of i) lanes)
 
 -- the first frames of a tick
 unfoldable pub sound_of : List Lane → ℕ → List ℤ
 sound_of lanes zero = []
 sound_of lanes (suc frames) = sound_of lanes frames ++ frame_at lanes frames
+
+-- ---- the same sum over voices between ticks, with what is kept for their channels
+
+abbrev pub voices_sum : (Option Owned → Voice → ℤ) → List (Option Owned) → List Voice → ℤ
+voices_sum side kept [] = pos 0
+voices_sum side kept (voice ∷ voices) = side (get_or kept voice.channel None) voice +ℤ voices_sum side kept voices
+
+unfoldable pub frame_of_voices : List (Option Owned) → List Voice → ℕ → List ℤ
+frame_of_voices kept voices i = stereo (voices_sum (left_of i) kept voices) (voices_sum (right_of i) kept voices)
+
+unfoldable pub sound_of_voices : List (Option Owned) → List Voice → ℕ → List ℤ
+sound_of_voices kept voices zero = []
+sound_of_voices kept voices (suc frames) = sound_of_voices kept voices frames ++ frame_of_voices kept voices frames
 
 -- ---- what a tick leaves of a voice
 
@@ -76,14 +95,34 @@ sound_of lanes (suc frames) = sound_of lanes frames ++ frame_at lanes frames
 abbrev pub is_ended : ℕ → Voice → Bool
 is_ended frames voice = voice.last || not (nat_lt ((voice.pos + frames * voice.step) / 2 ^ 32) voice.head.frames)
 
-abbrev pub moved_voice : ℕ → Voice → Voice
-moved_voice frames voice = record voice { pos = voice.pos + frames * voice.step }
+abbrev pub voice_after : ℕ → Voice → Voice
+voice_after frames voice = record voice { pos = voice.pos + frames * voice.step }
 
-abbrev pub moved_by : ℕ → Option Voice → Lane → Lane
-moved_by frames None lane = lane
-moved_by frames (Some voice) lane =
-    if is_ended frames voice then silenced lane
-    else record lane { channel = record lane.channel { voice = Some (moved_voice frames voice) } }
+abbrev pub lane_after_by : ℕ → Option Voice → Lane → Lane
+lane_after_by frames None lane = lane
+lane_after_by frames (Some voice) lane =
+    if is_ended frames voice then without_voice lane
+    else record lane { channel = record lane.channel { voice = Some (voice_after frames voice) } }
 
-unfoldable pub moved : ℕ → Lane → Lane
-moved frames lane = moved_by frames lane.channel.voice lane
+unfoldable pub lane_after : ℕ → Lane → Lane
+lane_after frames lane = lane_after_by frames lane.channel.voice lane
+
+-- ---- and of voices between ticks
+
+-- those that go on
+abbrev pub voices_after : ℕ → List Voice → List Voice
+voices_after frames [] = []
+voices_after frames (voice ∷ voices) =
+    if is_ended frames voice then voices_after frames voices
+    else voice_after frames voice ∷ voices_after frames voices
+
+-- the channels of those that end keep nothing any more
+abbrev pub shown_after : ℕ → List Voice → Shown → Shown
+shown_after frames [] shown = shown
+shown_after frames (voice ∷ voices) shown =
+    if is_ended frames voice then shown_after frames voices (keeping voice.channel None shown) else shown_after frames voices shown
+
+abbrev pub holds_after : ℕ → List Voice → List Bool → List Bool
+holds_after frames [] holds = holds
+holds_after frames (voice ∷ voices) holds =
+    if is_ended frames voice then holds_after frames voices (set holds voice.channel false) else holds_after frames voices holds

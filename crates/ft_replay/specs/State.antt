@@ -10,7 +10,7 @@ pub record Lane : Type 0 where
   pub owned : Option Owned
 
 -- the whole state between two ticks
-pub record Song : Type 0 where
+pub record SequentialState : Type 0 where
   pub control : Control
   pub lanes : List Lane
 
@@ -87,8 +87,8 @@ first_control = record {
   back = None;
 }
 
-abbrev pub first_song : ℕ → Song
-first_song channels = record {
+abbrev pub first_state : ℕ → SequentialState
+first_state channels = record {
   control = first_control;
   lanes = replicate channels (record { channel = first_channel; owned = None });
 }

@@ -1,7 +1,10 @@
 //! The state in which a song begins.
 
-ghost use Rattle.std.specs.Prelude.{◌≡◌, ◌≤◌, [], replicate};
-ghost use Rattle.ft_replay.specs.State.{first_channel, first_control};
+ghost use Rattle.std.specs.Prelude.{◌≡◌, ◌≤◌, [], None, replicate};
+ghost use Rattle.ft_types.specs.Views.{Shown};
+ghost use Rattle.ft_replay.specs.Range.{IsSongInRange};
+ghost use Rattle.ft_replay.specs.Standing.{sequential_of};
+ghost use Rattle.ft_replay.specs.State.{first_channel, first_control, first_state};
 
 use crate::state::{Channel, Control, SongState};
 use arrayvec::ArrayVec;
@@ -56,20 +59,30 @@ impl Channel {
     }
 }
 
+impl Control {
+    /// The control before the first tick: the global volume is full, and all else is 0.
+    pub fn first() -> Control
+        ensures { result ≡ first_control }
+    {
+        Control {
+            global: 64,
+            ..Control::default()
+        }
+    }
+}
+
 impl SongState {
-    /// The state before the first tick of a song of 1 to 32 channels.
+    /// The state before the first tick of a song of 1 to 32 channels, for which nothing is kept.
     pub fn first(channels: u8) -> SongState
         requires { channels ≤ 32 }
-        ensures control { result.control ≡ first_control }
+        ensures state { (shown : Shown) → shown.kept ≡ replicate channels None
+            → sequential_of result shown ≡ first_state channels }
         ensures used { result.used ≡ channels }
-        ensures channels { result.channels ≡ replicate 32 first_channel }
         ensures voices { result.voices.items ≡ [] }
+        ensures range { IsSongInRange result }
     {
         SongState {
-            control: Control {
-                global: 64,
-                ..Control::default()
-            },
+            control: Control::first(),
             used: channels,
             channels: [Channel::first(); 32],
             voices: ArrayVec::new(),

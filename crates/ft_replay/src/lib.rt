@@ -8,5 +8,5 @@ mod first;
 mod laws;
 mod state;
 
-pub use laws::{frequency_law, range_law, silence_law, sound_law};
+pub use laws::replay_law;
 pub use state::{Channel, Control, Place, SongState};

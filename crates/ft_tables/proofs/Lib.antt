@@ -1,0 +1,3 @@
+pub mod Amiga
+pub mod Octaves
+mod Worked
