@@ -1,0 +1,12 @@
+//! The rules of a row, on one channel, over any view of a song.
+//!
+//! `row_start` is the first tick of a row and `row_tick` a later one. They change the channel,
+//! what the view keeps for it, and the control that all channels share. They take no memory.
+#![tactic(auto)]
+
+mod anew;
+mod note;
+mod row;
+mod volume;
+
+pub use row::{row_start, row_tick};

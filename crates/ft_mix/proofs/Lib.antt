@@ -1,0 +1,5 @@
+mod Floor
+mod Parts
+mod Sums
+mod Sounds
+mod After

@@ -1,4 +1,0 @@
-pub mod Kept
-pub mod Narrow
-pub mod Mixes
-pub mod First

@@ -1,6 +1,0 @@
-use Rattle.std.proofs.Common.{◌≡◌, ◌++◌, map, take, drop}
-use Rattle.ft_replay.specs.Tick.{cleared}
-use Rattle.ft_plain.proofs.rows.clear_all.Given as goal
-
-abbrev pub invariant-loop-channel : goal.invariant-loop-channel
-invariant-loop-channel l = l.channels ≡ map cleared (take l.channel-index l.fn.channels) ++ drop l.channel-index l.fn.channels

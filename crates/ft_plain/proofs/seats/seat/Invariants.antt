@@ -1,9 +1,0 @@
-use Rattle.std.proofs.Common.{◌≡◌, length, drop}
-use Rattle.ft_replay.specs.Stands.{seated}
-use Rattle.ft_plain.proofs.seats.seat.Given as goal
-
-abbrev pub invariant-loop-voice : goal.invariant-loop-voice
-invariant-loop-voice l = record {
-  seated : seated l.channels (drop l.voice-index l.voices) ≡ seated l.fn.channels l.voices;
-  many : length l.channels ≡ length l.fn.channels;
-}

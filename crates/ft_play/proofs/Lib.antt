@@ -1,0 +1,4 @@
+mod Sitting
+mod Joined
+mod Whole
+mod Half

@@ -1,0 +1,9 @@
+mod Lanes
+mod Seating
+mod Ranges
+mod Kept
+mod Sitting
+mod Gathering
+mod Parts
+mod RowRules
+mod Making

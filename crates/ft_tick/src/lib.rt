@@ -1,0 +1,13 @@
+//! The tick of all channels, over any view of a song.
+#![tactic(auto)]
+
+mod gain;
+mod hear;
+mod place;
+mod rows;
+mod seats;
+mod state;
+mod tick;
+mod time;
+
+pub use state::tick_state;
