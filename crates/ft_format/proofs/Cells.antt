@@ -1,13 +1,13 @@
 -- A cell as it is written.
-use Rattle.std.proofs.Common.{◌≡◌, ℕ, ◌+◌, ◌*◌, ◌/◌, ◌%◌, ◌<◌, ◌≤◌, Bool, true, false, cond, List, [], ◌∷◌, ◌++◌, refl, ap, ◌∙◌, arith}
-use Rattle.std.specs.Prelude.{nat_lt, nat_le, ◌==◌, filter}
+use Rattle.std.proofs.Common.{◌≡◌, ℕ, ◌+◌, ◌*◌, ◌/◌, ◌%◌, ◌<◌, ◌≤◌, Bool, true, false, cond, refl, ap, arith}
+use Rattle.std.specs.Prelude.{nat_lt, nat_le, ◌==◌}
 use Rattle.std.specs.List.{list_all}
 use Rattle.std.proofs.lemmas.Bool.Decides.{nat_tests}
 use Rattle.ft_types.specs.declared.pattern.Cell.{Cell}
 use Rattle.ft_types.specs.Valid.{IsValidCell}
-use Rattle.ft_format.specs.Canon.{bytes_of_cell, is_set, mask_of, cell_bytes}
-use Rattle.ft_format.specs.Fields.{byte_if_text, IsByteIf}
-use Rattle.ft_format.specs.Pattern.{RawCell, raw_cell_text, RawCellFits, cell_of}
+use Rattle.ft_format.specs.Fields.{IsByteIf}
+use Rattle.ft_format.specs.Pattern.{RawCellFits, cell_of}
+use Rattle.ft_format.specs.Canon.{bytes_of_cell, is_set, mask_of, raw_cell_of}
 
 -- ---- the bits of a mask
 
@@ -76,32 +76,15 @@ bits a b c d e =
 abbrev make : ℕ → ℕ → ℕ → ℕ → ℕ → Cell
 make note instrument volume effect parameter = record { note = note; instrument = instrument; volume = volume; effect = effect; parameter = parameter }
 
-masked_text : (a b c d e : Bool) (first n i v f p : ℕ) → Bits a b c d e first
-    → raw_cell_text (first, make n i v f p) ≡ first ∷ (byte_if_text a n ++ (byte_if_text b i ++ (byte_if_text c v ++ (byte_if_text d f ++ byte_if_text e p))))
-unfolding raw_cell_text
-masked_text a b c d e first n i v f p s = rw (s.high, s.note, s.instrument, s.volume, s.effect, s.parameter) refl
-
-masked_fits : (a b c d e : Bool) (first n i v f p : ℕ) → Bits a b c d e first → IsByteIf a n → IsByteIf b i → IsByteIf c v → IsByteIf d f → IsByteIf e p → RawCellFits (first, make n i v f p)
-unfolding RawCellFits
-masked_fits a b c d e first n i v f p s fn fi fv ff fp = rw (s.high, s.note, s.instrument, s.volume, s.effect, s.parameter) (omega (arith, s.small), (fn, (fi, (fv, (ff, fp)))))
-
-kept_step : (b : Bool) (x : ℕ) (l : List ℕ) → byte_if_text b x ++ l ≡ cond b (x ∷ l) l
-kept_step true x l = refl
-kept_step false x l = refl
-
-last_step : (b : Bool) (x : ℕ) → byte_if_text b x ≡ cond b (x ∷ []) []
-last_step true x = refl
-last_step false x = refl
-
--- the bytes that aren't 0
-kept_bytes : (n i v f p : ℕ) → byte_if_text (is_set n) n ++ (byte_if_text (is_set i) i ++ (byte_if_text (is_set v) v ++ (byte_if_text (is_set f) f ++ byte_if_text (is_set p) p)))
-    ≡ filter is_set (n ∷ i ∷ v ∷ f ∷ p ∷ [])
-kept_bytes n i v f p =
-    ap (λ (l : List ℕ). byte_if_text (is_set n) n ++ (byte_if_text (is_set i) i ++ (byte_if_text (is_set v) v ++ (byte_if_text (is_set f) f ++ l)))) (last_step (is_set p) p)
-    ∙ ap (λ (l : List ℕ). byte_if_text (is_set n) n ++ (byte_if_text (is_set i) i ++ (byte_if_text (is_set v) v ++ l))) (kept_step (is_set f) f (filter is_set (p ∷ [])))
-    ∙ ap (λ (l : List ℕ). byte_if_text (is_set n) n ++ (byte_if_text (is_set i) i ++ l)) (kept_step (is_set v) v (filter is_set (f ∷ p ∷ [])))
-    ∙ ap (λ (l : List ℕ). byte_if_text (is_set n) n ++ l) (kept_step (is_set i) i (filter is_set (v ∷ f ∷ p ∷ [])))
-    ∙ kept_step (is_set n) n (filter is_set (i ∷ v ∷ f ∷ p ∷ []))
+masked_fits : (a b c d e : Bool) (first n i v f p : ℕ) → Bits a b c d e first → IsByteIf a n → IsByteIf b i → IsByteIf c v → IsByteIf d f → IsByteIf e p → RawCellFits (record { first = first; cell = make n i v f p })
+masked_fits a b c d e first n i v f p s fn fi fv ff fp = record {
+  first = omega (arith, s.small);
+  note = rw (s.high, s.note) fn;
+  instrument = rw (s.high, s.instrument) fi;
+  volume = rw (s.high, s.volume) fv;
+  effect = rw (s.high, s.effect) ff;
+  parameter = rw (s.high, s.parameter) fp;
+}
 
 unset : (x : ℕ) → is_set x ≡ false → x ≡ 0
 unset x e = grind (arith, nat_tests)
@@ -110,38 +93,25 @@ byte_if_fits : (b : Bool) (x : ℕ) → is_set x ≡ b → x < 256 → IsByteIf 
 byte_if_fits true x e lt = omega (arith, lt)
 byte_if_fits false x e lt = unset x e
 
-bare_text : (n i v f p : ℕ) → nat_lt n 128 ≡ true → raw_cell_text (n, make n i v f p) ≡ n ∷ i ∷ v ∷ f ∷ p ∷ []
-unfolding raw_cell_text
-bare_text n i v f p low = rw low refl
-
-bare_fits : (n i v f p : ℕ) → nat_lt n 128 ≡ true → n < 256 → i < 256 → v < 256 → f < 256 → p < 256 → RawCellFits (n, make n i v f p)
-unfolding RawCellFits
-bare_fits n i v f p low ln li lv lf lp = rw low (omega (arith, ln), (refl, (omega (arith, li), (omega (arith, lv), (omega (arith, lf), omega (arith, lp))))))
+bare_fits : (n i v f p : ℕ) → nat_lt n 128 ≡ true → n < 256 → i < 256 → v < 256 → f < 256 → p < 256 → RawCellFits (record { first = n; cell = make n i v f p })
+bare_fits n i v f p low ln li lv lf lp = record {
+  first = omega (arith, ln);
+  note = rw low refl;
+  instrument = rw low (omega (arith, li));
+  volume = rw low (omega (arith, lv));
+  effect = rw low (omega (arith, lf));
+  parameter = rw low (omega (arith, lp));
+}
 
 -- ---- a cell
-
-abbrev first_of : Bool → Cell → ℕ
-first_of full cell = cond full cell.note (128 + mask_of (bytes_of_cell cell))
-
-abbrev pub raw_cell_of : Cell → RawCell
-raw_cell_of cell = (first_of (list_all is_set (bytes_of_cell cell)) cell, cell)
 
 low_note : (n : ℕ) → n ≤ 97 → nat_lt n 128 ≡ true
 low_note n le = grind (arith, nat_tests)
 
-cell_step_text : (full : Bool) (cell : Cell) → cell.note ≤ 97 → raw_cell_text (first_of full cell, cell) ≡ cond full (bytes_of_cell cell) ((128 + mask_of (bytes_of_cell cell)) ∷ filter is_set (bytes_of_cell cell))
-cell_step_text true cell low = bare_text cell.note cell.instrument cell.volume cell.effect cell.parameter (low_note cell.note low)
-cell_step_text false cell low =
-    let first = 128 + mask_of (bytes_of_cell cell) in
-    masked_text (is_set cell.note) (is_set cell.instrument) (is_set cell.volume) (is_set cell.effect) (is_set cell.parameter) first cell.note cell.instrument cell.volume cell.effect cell.parameter
-    (bits (is_set cell.note) (is_set cell.instrument) (is_set cell.volume) (is_set cell.effect) (is_set cell.parameter))
-    ∙ ap (λ (l : List ℕ). first ∷ l) (kept_bytes cell.note cell.instrument cell.volume cell.effect cell.parameter)
+abbrev first_if : Bool → Cell → ℕ
+first_if full cell = cond full cell.note (128 + mask_of (bytes_of_cell cell))
 
-pub cell_text : (cell : Cell) → IsValidCell cell → raw_cell_text (raw_cell_of cell) ≡ cell_bytes cell
-unfolding cell_bytes
-cell_text cell v = cell_step_text (list_all is_set (bytes_of_cell cell)) cell v.note
-
-cell_step_fits : (full : Bool) (cell : Cell) → IsValidCell cell → RawCellFits (first_of full cell, cell)
+cell_step_fits : (full : Bool) (cell : Cell) → IsValidCell cell → RawCellFits (record { first = first_if full cell; cell = cell })
 cell_step_fits true cell v = bare_fits cell.note cell.instrument cell.volume cell.effect cell.parameter (low_note cell.note v.note) (omega (arith, v.note)) v.instrument v.volume v.effect v.parameter
 cell_step_fits false cell v =
     masked_fits (is_set cell.note) (is_set cell.instrument) (is_set cell.volume) (is_set cell.effect) (is_set cell.parameter) (128 + mask_of (bytes_of_cell cell)) cell.note cell.instrument cell.volume cell.effect cell.parameter

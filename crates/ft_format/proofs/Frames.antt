@@ -6,7 +6,8 @@ use Rattle.std.specs.Int.{w8, w16, cast_signed, cast_unsigned}
 use Rattle.std.proofs.lemmas.Int.{to_z-of_z}
 use Rattle.std.proofs.lemmas.List.{length-map}
 use Rattle.std.proofs.lemmas.List.Elements.{All-head, All-tail, All-nil, All-cons, All-map}
-use Rattle.ft_format.specs.Canon.{u16, steps_from}
+use Rattle.ft_format.specs.Fields.{u16}
+use Rattle.ft_format.specs.Canon.{steps_from}
 use Rattle.ft_format.specs.Sample.{sums_from, pairs_of, narrow_frames, wide_frames}
 use Rattle.ft_format.proofs.Lists.{map_back}
 

@@ -1,10 +1,9 @@
 -- An instrument as it is written.
-use Rattle.std.proofs.Common.{◌≡◌, ℕ, ◌*◌, ◌%◌, ◌<◌, ◌≤◌, Bool, true, false, cond, List, [], ◌∷◌, ◌++◌, length, map, replicate, All, refl, sym, ap, ◌∙◌, arith, append_assoc}
+use Rattle.std.proofs.Common.{◌≡◌, ℕ, ◌*◌, ◌%◌, ◌<◌, ◌≤◌, Bool, true, false, cond, List, [], ◌∷◌, ◌++◌, length, map, replicate, All, refl, sym, ap, ◌∙◌, arith}
 use Rattle.std.specs.Prelude.{nat_le, ◌==◌, min}
-use Rattle.std.specs.List.{concat, flat_map}
-use Rattle.std.proofs.lemmas.List.{append-nil, length-append, length-map}
+use Rattle.std.specs.List.{flat_map}
+use Rattle.std.proofs.lemmas.List.{length-append, length-map}
 use Rattle.std.proofs.lemmas.List.Elements.{All-head, All-tail, All-map, All-replicate}
-use Rattle.std.proofs.lemmas.List.Folds.{flat_map-map}
 use Rattle.std.proofs.lemmas.Bool.Decides.{nat_tests}
 use Rattle.ft_types.specs.declared.instrument.Instrument.{Instrument}
 use Rattle.ft_types.specs.declared.instrument.Envelope.{Envelope}
@@ -13,114 +12,61 @@ use Rattle.ft_types.specs.declared.instrument.Vibrato.{Vibrato}
 use Rattle.ft_types.specs.declared.sample.Sample.{Sample}
 use Rattle.ft_types.specs.Valid.{IsValidPoint, IsValidEnvelope, IsValidVibrato, IsValidInstrument, IsZeroPoint, IsZeroEnvelope}
 use Rattle.ft_format.specs.declared.instrument.InstrumentHead.{InstrumentHead}
-use Rattle.ft_format.specs.declared.instrument.Extra.{Extra}
-use Rattle.ft_format.specs.Canon.{byte, u16, u32, point_bytes, turn_bytes, vibrato_bytes, short_head, long_head, sample_header_bytes, sample_data, instrument_bytes}
-use Rattle.ft_format.specs.Sample.{RawSampleFits, sample_header_text, sample_of}
-use Rattle.ft_format.specs.Instrument.{RawInstrument, RawRest, RawInstrumentFits, RestFits, HeadFits, head_text, rest_text, instrument_text, PointFits, ExtraFits, extra_text, zero_envelope, zero_extra, point_of, envelope_of, vibrato_of, instrument_with, instrument_of}
+use Rattle.ft_format.specs.declared.layout.TheConstants.{NO_ENVELOPE}
+use Rattle.ft_format.specs.Fields.{u16}
+use Rattle.ft_format.specs.Sample.{RawSampleFits, sample_from}
+use Rattle.ft_format.specs.Instrument.{RawInstrumentFits, RestFits, HeadFits, point_text, shapes_of, shapes_text, vibrato_text, PointFits, ExtraFits, extra_text, point_of, envelope_of, vibrato_of, instrument_with, instrument_of}
+use Rattle.ft_format.specs.Canon.{raw_sample_of, head_size, extra_of, rest_of, raw_instrument_of}
 use Rattle.ft_format.proofs.Numbers.{eq_is, least}
 use Rattle.ft_format.proofs.Bytes.{bytes_of, field_of}
-use Rattle.ft_format.proofs.Lists.{flat_map_same, map_back, map_kept}
-use Rattle.ft_format.proofs.Samples.{raw_sample_of, header_again, sample_fits, sample_means}
+use Rattle.ft_format.proofs.Lists.{map_back, map_kept}
+use Rattle.ft_format.proofs.Samples.{sample_fits, sample_means}
 
-abbrev sized : Bool → ℕ
-sized none = cond none 29 263
-
-abbrev extra_of : Instrument → Extra
-extra_of i = record { header_size = 40; map = i.map; volume = i.volume; panning = i.panning; vibrato = i.vibrato; fadeout = i.fadeout }
-
-abbrev head_of : Bool → Instrument → InstrumentHead
-head_of none i = record { size = sized none; name = i.name; kind = 0; samples = length i.samples }
-
-abbrev rest_of : Bool → Instrument → RawRest
-rest_of true i = record { extra = zero_extra; skipped = []; samples = [] }
-rest_of false i = record { extra = extra_of i; skipped = replicate 22 0; samples = map raw_sample_of i.samples }
-
-abbrev pub raw_instrument_of : Instrument → RawInstrument
-raw_instrument_of i = record { head = head_of (length i.samples == 0) i; rest = rest_of (length i.samples == 0) i }
-
--- ---- its bytes
-
--- the same pieces one after the other
-regroup : (size name kind samples header_size map volume panning c1 c2 t1 t2 f1 f2 vibrato fadeout zeros headers frames : List ℕ)
-    → (size ++ (name ++ (kind ++ samples))) ++ (((header_size ++ (map ++ (volume ++ (panning ++ ((c1 ++ c2) ++ (t1 ++ (t2 ++ ((f1 ++ f2) ++ (vibrato ++ fadeout))))))))) ++ zeros) ++ (headers ++ frames))
-    ≡ concat (concat (size ∷ name ∷ kind ∷ samples ∷ header_size ∷ map ∷ volume ∷ panning ∷ c1 ∷ c2 ∷ t1 ∷ t2 ∷ f1 ∷ f2 ∷ vibrato ∷ fadeout ∷ zeros ∷ []) ∷ headers ∷ frames ∷ [])
-regroup size name kind samples header_size map volume panning c1 c2 t1 t2 f1 f2 vibrato fadeout zeros headers frames = simp (append_assoc, append-nil)
-
-headers_again : (samples : List Sample) → flat_map (λ sample. sample_header_text sample.header) (map raw_sample_of samples) ≡ flat_map sample_header_bytes samples
-headers_again samples =
-    flat_map-map (λ sample. sample_header_text sample.header) raw_sample_of samples
-    ∙ flat_map_same (λ sample. sample_header_text (raw_sample_of sample).header) sample_header_bytes samples (λ k d lt. header_again _)
-
-steps_again : (samples : List Sample) → flat_map (λ sample. sample.steps) (map raw_sample_of samples) ≡ flat_map sample_data samples
-steps_again samples = flat_map-map (λ sample. sample.steps) raw_sample_of samples
-
-short_again : (name : List ℕ) (n : ℕ) → n ≡ 0 → (u32 29 ++ (name ++ (byte 0 ++ u16 n))) ++ [] ≡ concat (u32 29 ∷ name ∷ byte 0 ∷ u16 0 ∷ [])
-short_again name n e = rw e (ap (λ (l : List ℕ). u32 29 ++ l) (append-nil (name ++ (byte 0 ++ u16 0))))
-
-again_by : (none : Bool) (i : Instrument) → (length i.samples == 0) ≡ none → head_text (head_of none i) ++ rest_text none (rest_of none i)
-    ≡ cond none (short_head i) (concat (long_head i ∷ flat_map sample_header_bytes i.samples ∷ flat_map sample_data i.samples ∷ []))
-unfolding short_head long_head extra_text
-again_by true i e = short_again i.name (length i.samples) (eq_is (length i.samples) 0 e)
-again_by false i e =
-    ap (λ (l : List ℕ). head_text (head_of false i) ++ ((extra_text (extra_of i) ++ replicate 22 0) ++ (l ++ flat_map (λ sample. sample.steps) (map raw_sample_of i.samples)))) (headers_again i.samples)
-    ∙ ap (λ (l : List ℕ). head_text (head_of false i) ++ ((extra_text (extra_of i) ++ replicate 22 0) ++ (flat_map sample_header_bytes i.samples ++ l))) (steps_again i.samples)
-    ∙ regroup (u32 263) i.name (byte 0) (u16 (length i.samples)) (u32 40) i.map (flat_map point_bytes i.volume.points) (flat_map point_bytes i.panning.points)
-    (byte i.volume.count) (byte i.panning.count) (turn_bytes i.volume) (turn_bytes i.panning) (byte i.volume.flags) (byte i.panning.flags)
-    (vibrato_bytes i.vibrato) (u16 i.fadeout) (replicate 22 0) (flat_map sample_header_bytes i.samples) (flat_map sample_data i.samples)
-
-pub instrument_again : (i : Instrument) → instrument_text (raw_instrument_of i) ≡ instrument_bytes i
-unfolding instrument_text instrument_bytes
-instrument_again i = again_by (length i.samples == 0) i refl
+-- the head, where the test says whether there are no samples
+abbrev head_if : Bool → Instrument → InstrumentHead
+head_if none i = record { size = head_size none; name = i.name; kind = 0; samples = length i.samples }
 
 -- ---- it fits
 
 points_fit : (points : List Point) → All IsValidPoint points → All PointFits points
-points_fit points all = λ k d lt. let v = all k d lt in (omega (arith, v.x), omega (arith, v.y))
+points_fit points all = λ k d lt. let v = all k d lt in record { x = omega (arith, v.x); y = omega (arith, v.y) }
 
 extra_fits : (i : Instrument) → IsValidInstrument i → ExtraFits (extra_of i)
-unfolding ExtraFits
-extra_fits i v = (
-  omega arith,
-  (
-    field_of 96 i.map (record { len = v.map_len; each = λ k d lt. omega (arith, v.map k d lt) }),
-    (
-      record { count = v.volume.twelve; each = points_fit i.volume.points v.volume.points },
-      (
-        record { count = v.panning.twelve; each = points_fit i.panning.points v.panning.points },
-        (
-          (omega (arith, v.volume.count), omega (arith, v.panning.count)),
-          (
-            (omega (arith, v.volume.sustain), (omega (arith, v.volume.loop_start), omega (arith, v.volume.loop_end))),
-            (
-              (omega (arith, v.panning.sustain), (omega (arith, v.panning.loop_start), omega (arith, v.panning.loop_end))),
-              (
-                (omega (arith, v.volume.flags), omega (arith, v.panning.flags)),
-                ((omega (arith, v.vibrato.kind), (omega (arith, v.vibrato.sweep), (omega (arith, v.vibrato.depth), omega (arith, v.vibrato.rate)))), omega (arith, v.fadeout)),
-              ),
-            ),
-          ),
-        ),
-      ),
-    ),
-  ),
-)
+extra_fits i v = record {
+  header_size = omega arith;
+  map = field_of 96 i.map (record { len = v.map_len; each = λ k d lt. omega (arith, v.map k d lt) });
+  envelopes = record {
+    volume = record { count = v.volume.twelve; each = points_fit i.volume.points v.volume.points };
+    panning = record { count = v.panning.twelve; each = points_fit i.panning.points v.panning.points };
+    shapes = record {
+      counts = record { volume = omega (arith, v.volume.count); panning = omega (arith, v.panning.count) };
+      volume = record { sustain = omega (arith, v.volume.sustain); loop_start = omega (arith, v.volume.loop_start); loop_end = omega (arith, v.volume.loop_end) };
+      panning = record { sustain = omega (arith, v.panning.sustain); loop_start = omega (arith, v.panning.loop_start); loop_end = omega (arith, v.panning.loop_end) };
+      flags = record { volume = omega (arith, v.volume.flags); panning = omega (arith, v.panning.flags) };
+    };
+  };
+  vibrato = record { kind = omega (arith, v.vibrato.kind); sweep = omega (arith, v.vibrato.sweep); depth = omega (arith, v.vibrato.depth); rate = omega (arith, v.vibrato.rate) };
+  fadeout = omega (arith, v.fadeout);
+}
 
-length_points : (points : List Point) → length (flat_map point_bytes points) ≡ 4 * length points
+length_points : (points : List Point) → length (flat_map point_text points) ≡ 4 * length points
 length_points [] = refl
-length_points (point ∷ points) = omega (arith, length-append (point_bytes point) (flat_map point_bytes points), length_points points)
+length_points (point ∷ points) = omega (arith, length-append (point_text point) (flat_map point_text points), length_points points)
 
-extra_length : (i : Instrument) → IsValidInstrument i → length (extra_text (extra_of i) ++ replicate 22 0) ≡ 234
+pub extra_length : (i : Instrument) → IsValidInstrument i → length (extra_text (extra_of i)) ≡ 212
 unfolding extra_text
 extra_length i w =
-    let v = flat_map point_bytes i.volume.points in
-    let p = flat_map point_bytes i.panning.points in
-    let tail = byte i.volume.count ++ byte i.panning.count ++ turn_bytes i.volume ++ turn_bytes i.panning ++ byte i.volume.flags ++ byte i.panning.flags ++ vibrato_bytes i.vibrato ++ u16 i.fadeout in
+    let e = extra_of i in
+    let v = flat_map point_text i.volume.points in
+    let p = flat_map point_text i.panning.points in
+    let s = shapes_text (shapes_of e.envelopes) in
+    let tail = vibrato_text e.vibrato ++ u16 e.fadeout in
     omega (
       arith,
-      length-append (extra_text (extra_of i)) (replicate 22 0),
-      length-append i.map (v ++ (p ++ tail)),
-      length-append v (p ++ tail),
-      length-append p tail,
+      length-append i.map ((v ++ (p ++ s)) ++ tail),
+      length-append (v ++ (p ++ s)) tail,
+      length-append v (p ++ s),
+      length-append p s,
       length_points i.volume.points,
       length_points i.panning.points,
       w.map_len,
@@ -128,13 +74,16 @@ extra_length i w =
       w.panning.twelve,
     )
 
+whole_length : (i : Instrument) → IsValidInstrument i → length (extra_text (extra_of i) ++ replicate 22 0) ≡ 234
+whole_length i v = omega (arith, extra_length i v, length-append (extra_text (extra_of i)) (replicate 22 0))
+
 zeros_small : (n : ℕ) → All (λ byte. byte < 256) (replicate n 0)
 zeros_small n = All-replicate (λ byte. byte < 256) n 0 (omega arith)
 
 some_not_none : (n : ℕ) → (n == 0) ≡ true → 1 ≤ n → ⊥
 some_not_none n e some = grind (arith, nat_tests)
 
-head_fits : (none : Bool) (i : Instrument) → (length i.samples == 0) ≡ none → IsValidInstrument i → HeadFits (head_of none i)
+head_fits : (none : Bool) (i : Instrument) → (length i.samples == 0) ≡ none → IsValidInstrument i → HeadFits (head_if none i)
 head_fits true i e v = record {
   size = omega arith;
   whole = omega arith;
@@ -152,10 +101,10 @@ head_fits false i e v = record {
   samples = v.few_samples;
 }
 
-rest_fits : (none : Bool) (i : Instrument) → IsValidInstrument i → RestFits none (head_of none i) (rest_of none i)
+rest_fits : (none : Bool) (i : Instrument) → IsValidInstrument i → RestFits none (head_if none i) (rest_of none i)
 rest_fits true i v = record { extra = refl; skipped = (refl, λ k. omega arith); samples = refl }
 rest_fits false i v = record {
-  extra = record { fits = extra_fits i v; whole = extra_length i v; bytes = bytes_of (replicate 22 0) (zeros_small 22) };
+  extra = record { fits = extra_fits i v; whole = whole_length i v; bytes = bytes_of (replicate 22 0) (zeros_small 22) };
   samples = record { count = length-map i.samples raw_sample_of; each = All-map RawSampleFits raw_sample_of i.samples (λ k d lt. sample_fits _ (v.samples k d lt)) };
 }
 
@@ -221,7 +170,7 @@ zero_map (x ∷ map) all =
     ap (λ (y : ℕ). y ∷ map) (All-head (λ sample. sample ≡ 0) x map all)
     ∙ ap (λ (l : List ℕ). 0 ∷ l) (zero_map map (All-tail (λ sample. sample ≡ 0) x map all))
 
-zero_envelope_is : (e : Envelope) → length e.points ≡ 12 → IsZeroEnvelope e → zero_envelope ≡ e
+zero_envelope_is : (e : Envelope) → length e.points ≡ 12 → IsZeroEnvelope e → NO_ENVELOPE ≡ e
 zero_envelope_is e twelve z =
     sym (same_envelope e.points (replicate 12 (record { x = 0; y = 0 })) e.count e.sustain e.loop_start e.loop_end e.flags 0 0 0 0 0
     (zero_points e.points z.points ∙ ap (λ (n : ℕ). replicate n (record { x = 0; y = 0 })) twelve) z.count z.sustain z.loop_start z.loop_end z.flags)
@@ -231,19 +180,19 @@ no_samples [] e = refl
 no_samples (x ∷ l) e = absurd (omega arith)
 
 means_by : (none : Bool) (i : Instrument) → (length i.samples == 0) ≡ none → IsValidInstrument i
-    → instrument_with (head_of none i) (rest_of none i).extra (map (λ sample. sample_of sample.header sample.steps) (rest_of none i).samples) ≡ i
+    → instrument_with (head_if none i) (rest_of none i).extra (map (λ sample. sample_from sample.header sample.steps) (rest_of none i).samples) ≡ i
 unfolding instrument_with envelope_of vibrato_of
 means_by true i e v =
     let none = eq_is (length i.samples) 0 e in
     let z = v.without none in
-    same_instrument i.name (replicate 96 0) i.map zero_envelope zero_envelope i.volume i.panning (make_vibrato 0 0 0 0) i.vibrato 0 i.fadeout [] i.samples
+    same_instrument i.name (replicate 96 0) i.map NO_ENVELOPE NO_ENVELOPE i.volume i.panning (make_vibrato 0 0 0 0) i.vibrato 0 i.fadeout [] i.samples
     (sym (zero_map i.map z.map ∙ ap (λ (n : ℕ). replicate n 0) v.map_len))
     (zero_envelope_is i.volume v.volume.twelve z.volume) (zero_envelope_is i.panning v.panning.twelve z.panning)
     (sym (same_vibrato i.vibrato.kind i.vibrato.sweep i.vibrato.depth i.vibrato.rate 0 0 0 0 z.kind z.sweep z.depth z.rate)) (sym z.fadeout) (sym (no_samples i.samples none))
 means_by false i e v =
     same_instrument i.name (map (min 15) i.map) i.map (envelope_of i.volume) (envelope_of i.panning) i.volume i.panning (vibrato_of i.vibrato) i.vibrato i.fadeout i.fadeout _ i.samples
     (map_kept (min 15) i.map (λ k d lt. least 15 _ (v.map k d lt))) (envelope_kept i.volume v.volume) (envelope_kept i.panning v.panning) (vibrato_kept i.vibrato v.vibrato) refl
-    (map_back (λ sample. sample_of sample.header sample.steps) raw_sample_of i.samples (λ k d lt. sample_means _ (v.samples k d lt)))
+    (map_back (λ sample. sample_from sample.header sample.steps) raw_sample_of i.samples (λ k d lt. sample_means _ (v.samples k d lt)))
 
 pub instrument_means : (i : Instrument) → IsValidInstrument i → instrument_of (raw_instrument_of i) ≡ i
 instrument_means i v = means_by (length i.samples == 0) i refl v

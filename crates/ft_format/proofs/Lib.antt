@@ -8,3 +8,4 @@ pub mod Patterns
 pub mod Samples
 pub mod Instruments
 pub mod Songs
+pub mod Parts

@@ -1,39 +1,16 @@
 -- A sample as it is written.
-use Rattle.std.proofs.Common.{◌≡◌, ℕ, ◌+◌, ◌-◌, ◌*◌, ◌/◌, ◌%◌, ◌<◌, ◌≤◌, Bool, true, false, cond, List, length, ℤ, All, refl, sym, arith, append_assoc}
+use Rattle.std.proofs.Common.{◌≡◌, ℕ, ◌+◌, ◌-◌, ◌*◌, ◌/◌, ◌%◌, ◌<◌, ◌≤◌, Bool, true, false, cond, List, length, ℤ, All, refl, sym, arith}
 use Rattle.std.specs.Prelude.{nat_eq, ◌==◌, ◌||◌, min, FitsSigned}
 use Rattle.std.specs.Int.{w8, cast_signed, cast_unsigned}
 use Rattle.std.proofs.lemmas.Int.{to_z-of_z}
-use Rattle.std.proofs.lemmas.List.{append-nil}
 use Rattle.std.proofs.lemmas.Bool.Decides.{nat_tests}
 use Rattle.ft_types.specs.declared.sample.Sample.{Sample}
 use Rattle.ft_types.specs.Valid.{IsValidSample, IsValidLoop, width_of}
-use Rattle.ft_format.specs.declared.sample.SampleHeader.{SampleHeader}
-use Rattle.ft_format.specs.Canon.{frame_size, type_of, sample_header_bytes, sample_data}
-use Rattle.ft_format.specs.Sample.{RawSample, RawSampleFits, sample_header_text, is_wide, frames_of, loop_kind_of, loop_start_of, loop_len_of, narrow_frames, wide_frames, sample_of}
+use Rattle.ft_format.specs.Canon.{frame_size, sample_data, sample_header_of, raw_sample_of}
+use Rattle.ft_format.specs.Sample.{RawSampleFits, sample_header_text, is_wide, frame_count, loop_kind_of, loop_start_of, loop_len_of, narrow_frames, wide_frames, sample_from}
 use Rattle.ft_format.proofs.Numbers.{least}
 use Rattle.ft_format.proofs.Bytes.{bytes_of, field_of}
 use Rattle.ft_format.proofs.Frames.{narrow_unsigned, narrow_data, wide_data, narrow_back, wide_back, narrow_data_length, wide_data_length, narrow_data_bytes, wide_data_bytes}
-
-abbrev header_of : Sample → SampleHeader
-header_of sample = record {
-  length = frame_size sample * length sample.frames;
-  loop_start = frame_size sample * sample.loop_start;
-  loop_len = frame_size sample * sample.loop_len;
-  volume = sample.volume;
-  finetune = cast_unsigned w8 sample.finetune;
-  kind = type_of sample;
-  panning = sample.panning;
-  relative = cast_unsigned w8 sample.relative;
-  skipped = 0;
-  name = sample.name;
-}
-
-abbrev pub raw_sample_of : Sample → RawSample
-raw_sample_of sample = record { header = header_of sample; steps = sample_data sample }
-
-pub header_again : (sample : Sample) → sample_header_text (header_of sample) ≡ sample_header_bytes sample
-unfolding sample_header_text sample_header_bytes
-header_again sample = simp (append_assoc, append-nil)
 
 -- ---- the data
 
@@ -99,7 +76,7 @@ loop_by false frames kind start len e z y s w =
     let more : 1 ≤ kind = grind (arith, nat_tests) in
     record { in_start = omega (arith, w more); in_len = w more; none_len = y; none_start = z; some = s }
 
-loop_of : (sample : Sample) → IsValidLoop sample → Loop (length sample.frames) sample.loop_kind sample.loop_start sample.loop_len
+loop_of : (sample : Sample) → IsValidLoop sample.loop_kind sample.loop_start sample.loop_len (length sample.frames) → Loop (length sample.frames) sample.loop_kind sample.loop_start sample.loop_len
 loop_of sample v = loop_by (nat_eq sample.loop_kind 0) (length sample.frames) sample.loop_kind sample.loop_start sample.loop_len refl v.none_start v.none_len v.some_len v.within
 
 -- what the test leaves of a loop's numbers are those of a sample
@@ -185,22 +162,36 @@ sample_fits sample v =
         skipped = omega arith;
         name = field_of 22 sample.name v.name;
         mono = k.mono;
-        few_frames = omega (arith, in_frames_again (is_wide (header_of sample)) sample.wide (length sample.frames) k.bits, v.few_frames);
+        few_frames = omega (arith, in_frames_again (is_wide (sample_header_of sample)) sample.wide (length sample.frames) k.bits, v.few_frames);
       };
       steps = (w.len, bytes_of (sample_data sample) w.bytes);
     }
 
-pub sample_means : (sample : Sample) → IsValidSample sample → sample_of (header_of sample) (sample_data sample) ≡ sample
-unfolding sample_of
+pub sample_means : (sample : Sample) → IsValidSample sample → sample_from (sample_header_of sample) (sample_data sample) ≡ sample
+unfolding sample_from
 sample_means sample v =
-    let h = header_of sample in
+    let h = sample_header_of sample in
     let k = kind_of sample.wide sample.loop_kind v.looping.kind in
     let l = loop_of sample v.looping in
     let w = written_sample sample v in
     let n = in_frames_again (is_wide h) sample.wide (length sample.frames) k.bits in
-    let s = start_again (length sample.frames) sample.loop_start (frames_of h) _ n (in_frames_again (is_wide h) sample.wide sample.loop_start k.bits) l.in_start in
-    let m = len_again (length sample.frames) sample.loop_start sample.loop_len (frames_of h) (loop_start_of h) _ n s (in_frames_again (is_wide h) sample.wide sample.loop_len k.bits) l.in_len in
+    let s = start_again (length sample.frames) sample.loop_start (frame_count h) _ n (in_frames_again (is_wide h) sample.wide sample.loop_start k.bits) l.in_start in
+    let m = len_again (length sample.frames) sample.loop_start sample.loop_len (frame_count h) (loop_start_of h) _ n s (in_frames_again (is_wide h) sample.wide sample.loop_len k.bits) l.in_len in
     let t = kept (length sample.frames) (loop_kind_of h) (loop_start_of h) (loop_len_of h) sample.loop_kind sample.loop_start sample.loop_len k.loop s m l in
     same_sample sample (min 64 sample.volume) (cast_signed w8 (cast_unsigned w8 sample.finetune)) (cast_signed w8 (cast_unsigned w8 sample.relative)) (is_wide h) _ _ _ _
     (least 64 sample.volume v.volume) (to_z-of_z w8 sample.finetune v.finetune) (to_z-of_z w8 sample.relative v.relative) k.bits t.same_kind t.same_start t.same_len
     (frames_again (is_wide h) sample.wide (sample_data sample) sample.frames k.bits w.means)
+
+-- ---- sizes
+
+pub sample_header_length : (sample : Sample) → IsValidSample sample → length (sample_header_text (sample_header_of sample)) ≡ 40
+unfolding sample_header_text
+sample_header_length sample v = omega (arith, v.name.len)
+
+length_by_width : (wide : Bool) (frames : List ℤ) → length (cond wide (wide_data frames) (narrow_data frames)) ≡ size_of wide * length frames
+length_by_width true frames = wide_data_length frames
+length_by_width false frames = omega (arith, narrow_data_length frames)
+
+pub data_length : (sample : Sample) → length (sample_data sample) ≡ frame_size sample * length sample.frames
+unfolding sample_data
+data_length sample = length_by_width sample.wide sample.frames

@@ -14,11 +14,13 @@ use Rattle.ft_types.specs.declared.sample.Sample.{Sample}
 use Rattle.ft_types.specs.Valid.{IsValid, IsValidPattern, IsValidCell, IsValidInstrument, IsValidEnvelope, IsValidPoint, IsValidVibrato, IsValidSample, IsZeroInstrument, IsZeroEnvelope, IsZeroPoint, width_of}
 use Rattle.ft_format.specs.declared.instrument.InstrumentHead.{InstrumentHead}
 use Rattle.ft_format.specs.declared.instrument.Extra.{Extra}
+use Rattle.ft_format.specs.declared.cell.RawCell.{RawCell}
+use Rattle.ft_format.specs.declared.layout.TheConstants.{EMPTY_CELL, NO_EXTRA, NO_ENVELOPE}
 use Rattle.ft_format.specs.Fields.{IsByteIf, IsField, AllFit}
-use Rattle.ft_format.specs.Header.{RawHeader, HeaderFits, length_of, restart_of, orders_of, song_of}
-use Rattle.ft_format.specs.Pattern.{RawCell, RawCellFits, has, cell_of, RawPattern, RawPatternFits, DataFits, rows_of, pattern_of, empty_cell}
-use Rattle.ft_format.specs.Sample.{RawSample, RawSampleFits, is_wide, frames_of, loop_kind_of, loop_start_of, loop_len_of, is_unlooped, narrow_frames, wide_frames, sample_of}
-use Rattle.ft_format.specs.Instrument.{RawInstrument, RawRest, RawInstrumentFits, HeadFits, RestFits, PointFits, VibratoFits, ExtraFits, zero_envelope, zero_extra, point_of, envelope_of, vibrato_of, instrument_with, instrument_of}
+use Rattle.ft_format.specs.Header.{RawHeader, HeaderFits, length_of, restart_of, orders_of, song_from}
+use Rattle.ft_format.specs.Pattern.{RawCellFits, has, cell_of, RawPattern, RawPatternFits, DataFits, rows_of, pattern_of}
+use Rattle.ft_format.specs.Sample.{RawSample, RawSampleFits, is_wide, frame_count, loop_kind_of, loop_start_of, loop_len_of, is_unlooped, narrow_frames, wide_frames, sample_from}
+use Rattle.ft_format.specs.Instrument.{RawInstrument, RawRest, RawInstrumentFits, HeadFits, RestFits, PointFits, VibratoFits, ExtraFits, point_of, envelope_of, vibrato_of, instrument_with, instrument_of}
 use Rattle.ft_format.specs.Spelling.{RawSong, SongFits, module_of}
 use Rattle.ft_format.specs.Laws.{SpelledIsValid}
 use Rattle.ft_format.proofs.Bytes.{are_bytes, bytes_of, all_of}
@@ -34,16 +36,15 @@ byte_if_small true x fits = omega (arith, fits)
 byte_if_small false x fits = omega (arith, fits)
 
 cell_valid : (raw : RawCell) → RawCellFits raw → IsValidCell (cell_of raw)
-unfolding RawCellFits
 cell_valid raw fits = record {
-  note = note_low raw.1.note;
-  instrument = byte_if_small (has raw.0 2) raw.1.instrument fits.1.1.0;
-  volume = byte_if_small (has raw.0 4) raw.1.volume fits.1.1.1.0;
-  effect = byte_if_small (has raw.0 8) raw.1.effect fits.1.1.1.1.0;
-  parameter = byte_if_small (has raw.0 16) raw.1.parameter fits.1.1.1.1.1;
+  note = note_low raw.cell.note;
+  instrument = byte_if_small (has raw.first 2) raw.cell.instrument fits.instrument;
+  volume = byte_if_small (has raw.first 4) raw.cell.volume fits.volume;
+  effect = byte_if_small (has raw.first 8) raw.cell.effect fits.effect;
+  parameter = byte_if_small (has raw.first 16) raw.cell.parameter fits.parameter;
 }
 
-empty_valid : IsValidCell empty_cell
+empty_valid : IsValidCell EMPTY_CELL
 empty_valid = record { note = omega arith; instrument = omega arith; volume = omega arith; effect = omega arith; parameter = omega arith }
 
 -- what the cells of a pattern are
@@ -51,10 +52,10 @@ record Cells (count : ℕ) (cells : List Cell) : Type 0 where
   whole : length cells ≡ count
   each : All IsValidCell cells
 
-data_valid : (none : Bool) (count packed : ℕ) (x : List RawCell × List ℕ) → DataFits none count packed x → Cells count (cond none (replicate count empty_cell) (map cell_of x.0))
+data_valid : (none : Bool) (count packed : ℕ) (x : List RawCell × List ℕ) → DataFits none count packed x → Cells count (cond none (replicate count EMPTY_CELL) (map cell_of x.0))
 data_valid true count packed x fits = record {
-  whole = length-replicate {A = Cell} count empty_cell;
-  each = All-replicate IsValidCell count empty_cell empty_valid;
+  whole = length-replicate {A = Cell} count EMPTY_CELL;
+  each = All-replicate IsValidCell count EMPTY_CELL empty_valid;
 }
 data_valid false count packed x fits = record {
   whole = length-map x.0 cell_of ∙ fits.fits.count;
@@ -126,13 +127,13 @@ frames_valid false steps = record { len = narrow_length steps; each = narrow_fit
 min_low : (a b : ℕ) → min a b ≤ a
 min_low a b = omega arith
 
-sample_valid : (raw : RawSample) → RawSampleFits raw → IsValidSample (sample_of raw.header raw.steps)
-unfolding sample_of
+sample_valid : (raw : RawSample) → RawSampleFits raw → IsValidSample (sample_from raw.header raw.steps)
+unfolding sample_from
 sample_valid raw fits =
     let h = raw.header in
     let f = frames_valid (is_wide h) raw.steps in
-    let count : cond (is_wide h) (length raw.steps / 2) (length raw.steps) ≡ frames_of h = ap (λ (n : ℕ). cond (is_wide h) (n / 2) n) fits.steps.0 in
-    let l = loop_valid (is_unlooped h) (frames_of h) (loop_kind_of h) (loop_start_of h) (loop_len_of h) refl (min_low 2 (h.kind % 4)) (min_low (frames_of h) _) (min_low (frames_of h - loop_start_of h) _) in
+    let count : cond (is_wide h) (length raw.steps / 2) (length raw.steps) ≡ frame_count h = ap (λ (n : ℕ). cond (is_wide h) (n / 2) n) fits.steps.0 in
+    let l = loop_valid (is_unlooped h) (frame_count h) (loop_kind_of h) (loop_start_of h) (loop_len_of h) refl (min_low 2 (h.kind % 4)) (min_low (frame_count h) _) (min_low (frame_count h - loop_start_of h) _) in
     record {
       name = are_bytes 22 h.name fits.header.name;
       volume = min_low 64 h.volume;
@@ -150,7 +151,7 @@ low_of : (most : ℕ) (xs : List ℕ) → All (λ x. x ≤ most) (map (min most)
 low_of most xs = All-map (λ x. x ≤ most) (min most) xs (λ k d lt. min_low most _)
 
 point_valid : (point : Point) → PointFits point → IsValidPoint (point_of point)
-point_valid point fits = record { x = omega (arith, fits.0); y = min_low 64 point.y }
+point_valid point fits = record { x = omega (arith, fits.x); y = min_low 64 point.y }
 
 envelope_valid : (e : Envelope) → AllFit 12 PointFits e.points → IsValidEnvelope (envelope_of e)
 unfolding envelope_of
@@ -169,23 +170,32 @@ low_kind n = grind (arith, nat_tests)
 
 vibrato_valid : (v : Vibrato) → VibratoFits v → IsValidVibrato (vibrato_of v)
 unfolding vibrato_of
-vibrato_valid v fits = record { kind = low_kind v.kind; sweep = omega (arith, fits.1.0); depth = min_low 15 v.depth; rate = min_low 63 v.rate }
+vibrato_valid v fits = record { kind = low_kind v.kind; sweep = omega (arith, fits.sweep); depth = min_low 15 v.depth; rate = min_low 63 v.rate }
 
-zero_fits : ExtraFits zero_extra
-unfolding ExtraFits
+zero_fits : ExtraFits NO_EXTRA
 zero_fits =
-    let points : AllFit 12 PointFits zero_envelope.points = record { count = refl; each = All-replicate PointFits 12 (record { x = 0; y = 0 }) (omega arith, omega arith) } in (
-      omega arith,
-      (
-        (refl, bytes_of (replicate 96 0) (All-replicate (λ byte. byte < 256) 96 0 (omega arith))),
-        (points, (points, ((omega arith, omega arith), ((omega arith, (omega arith, omega arith)), ((omega arith, (omega arith, omega arith)), ((omega arith, omega arith), ((omega arith, (omega arith, (omega arith, omega arith))), omega arith))))))),
-      ),
-    )
+    let points : AllFit 12 PointFits NO_ENVELOPE.points = record { count = refl; each = All-replicate PointFits 12 (record { x = 0; y = 0 }) (record { x = omega arith; y = omega arith }) } in
+    record {
+      header_size = omega arith;
+      map = (refl, bytes_of (replicate 96 0) (All-replicate (λ byte. byte < 256) 96 0 (omega arith)));
+      envelopes = record {
+        volume = points;
+        panning = points;
+        shapes = record {
+          counts = record { volume = omega arith; panning = omega arith };
+          volume = record { sustain = omega arith; loop_start = omega arith; loop_end = omega arith };
+          panning = record { sustain = omega arith; loop_start = omega arith; loop_end = omega arith };
+          flags = record { volume = omega arith; panning = omega arith };
+        };
+      };
+      vibrato = record { kind = omega arith; sweep = omega arith; depth = omega arith; rate = omega arith };
+      fadeout = omega arith;
+    }
 
-zero_zero : (head : InstrumentHead) → IsZeroInstrument (instrument_with head zero_extra [])
+zero_zero : (head : InstrumentHead) → IsZeroInstrument (instrument_with head NO_EXTRA [])
 unfolding instrument_with envelope_of vibrato_of
 zero_zero head =
-    let envelope : IsZeroEnvelope (envelope_of zero_envelope) = record {
+    let envelope : IsZeroEnvelope (envelope_of NO_ENVELOPE) = record {
       points = All-replicate IsZeroPoint 12 (record { x = 0; y = 0 }) (refl, refl);
       count = refl;
       sustain = refl;
@@ -206,22 +216,22 @@ zero_zero head =
 
 with_valid : (head : InstrumentHead) (extra : Extra) (samples : List Sample) → IsField 22 head.name → ExtraFits extra → length samples ≤ 16 → All IsValidSample samples
     → (length samples ≡ 0 → IsZeroInstrument (instrument_with head extra samples)) → IsValidInstrument (instrument_with head extra samples)
-unfolding instrument_with ExtraFits
+unfolding instrument_with
 with_valid head extra samples name fits few all without = record {
   name = are_bytes 22 head.name name;
-  map_len = length-map extra.map (min 15) ∙ fits.1.0.0;
+  map_len = length-map extra.map (min 15) ∙ fits.map.0;
   map = low_of 15 extra.map;
-  volume = envelope_valid extra.volume fits.1.1.0;
-  panning = envelope_valid extra.panning fits.1.1.1.0;
-  vibrato = vibrato_valid extra.vibrato fits.1.1.1.1.1.1.1.1.0;
-  fadeout = omega (arith, fits.1.1.1.1.1.1.1.1.1);
+  volume = envelope_valid extra.envelopes.volume fits.envelopes.volume;
+  panning = envelope_valid extra.envelopes.panning fits.envelopes.panning;
+  vibrato = vibrato_valid extra.vibrato fits.vibrato;
+  fadeout = omega (arith, fits.fadeout);
   few_samples = few;
   samples = all;
   without = without;
 }
 
 abbrev sample_in : RawSample → Sample
-sample_in raw = sample_of raw.header raw.steps
+sample_in raw = sample_from raw.header raw.steps
 
 not_empty : (n : ℕ) → (n == 0) ≡ false → n ≡ 0 → ⊥
 not_empty n e z = grind (arith, nat_tests)
@@ -229,8 +239,8 @@ not_empty n e z = grind (arith, nat_tests)
 rest_valid : (none : Bool) (head : InstrumentHead) (rest : RawRest) → (head.samples == 0) ≡ none → HeadFits head → RestFits none head rest
     → IsValidInstrument (instrument_with head rest.extra (map sample_in rest.samples))
 rest_valid true head rest e h fits =
-    let zero : instrument_with head zero_extra [] ≡ instrument_with head rest.extra (map sample_in rest.samples) = rw (fits.extra, fits.samples) refl in
-    subst IsValidInstrument zero (with_valid head zero_extra [] h.name zero_fits (omega arith) (All-nil IsValidSample) (λ _. zero_zero head))
+    let zero : instrument_with head NO_EXTRA [] ≡ instrument_with head rest.extra (map sample_in rest.samples) = rw (fits.extra, fits.samples) refl in
+    subst IsValidInstrument zero (with_valid head NO_EXTRA [] h.name zero_fits (omega arith) (All-nil IsValidSample) (λ _. zero_zero head))
 rest_valid false head rest e h fits =
     let count : length (map sample_in rest.samples) ≡ head.samples = length-map rest.samples sample_in ∙ fits.samples.count in
     with_valid head rest.extra (map sample_in rest.samples) h.name fits.extra.fits (omega (arith, count, h.samples))
@@ -253,8 +263,8 @@ order_bytes n table all = All-take (λ byte. byte < 256) n (table ++ replicate 2
 
 header_valid : (raw : RawHeader) (patterns : List Pattern) (instruments : List Instrument) → HeaderFits raw
     → length patterns ≡ raw.settings.patterns → All (IsValidPattern raw.sizes.channels) patterns → length instruments ≡ raw.settings.instruments → All IsValidInstrument instruments
-    → IsValid (song_of raw patterns instruments)
-unfolding song_of
+    → IsValid (song_from raw patterns instruments)
+unfolding song_from
 header_valid raw patterns instruments fits many ps all is =
     let n = length_of raw.sizes in
     let few : n ≤ 256 = omega (arith, fits.sizes.length) in

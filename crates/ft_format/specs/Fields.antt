@@ -1,5 +1,17 @@
--- Fields: what numbers and bytes a field of a file can hold, and parts of parts.
+-- Fields: how numbers are spelled, what numbers and bytes a field of a file can hold, and parts of
+-- parts. All numbers are little-endian.
 use Rattle.std.specs.Prelude.{◌≡◌, ℕ, ◌<◌, ◌^◌, Bool, true, false, List, [], ◌∷◌, ◌++◌, length, All, get_or, min, max}
+use Rattle.byteorder.specs.Endian.{little_bytes}
+
+-- a field of one byte, of two and of four
+abbrev pub byte : ℕ → List ℕ
+byte x = x ∷ []
+
+abbrev pub u16 : ℕ → List ℕ
+u16 x = little_bytes 2 x
+
+abbrev pub u32 : ℕ → List ℕ
+u32 x = little_bytes 4 x
 
 -- a number in a field of n bytes
 abbrev pub IsNumber : ℕ → ℕ → Type 0

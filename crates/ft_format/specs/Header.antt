@@ -6,8 +6,9 @@ use Rattle.ft_types.specs.declared.instrument.Instrument.{Instrument}
 use Rattle.ft_format.specs.declared.header.Titles.{Titles}
 use Rattle.ft_format.specs.declared.header.Sizes.{Sizes}
 use Rattle.ft_format.specs.declared.header.Settings.{Settings}
-use Rattle.ft_format.specs.Canon.{byte, u16, u32}
-use Rattle.ft_format.specs.Fields.{IsNumber, IsField, brought}
+use Rattle.ft_format.specs.declared.layout.TheConstants.{VERSION, BEFORE_ORDERS, LEAST_HEADER_SIZE}
+use Rattle.ft_format.specs.declared.limits.TheConstants.{MOST_ORDERS, MOST_CHANNELS, MOST_PATTERNS, MOST_INSTRUMENTS}
+use Rattle.ft_format.specs.Fields.{byte, u16, u32, IsNumber, IsField, brought}
 
 -- the fields, and an order table of any length
 pub record RawHeader : Type 0 where
@@ -22,13 +23,16 @@ abbrev pub titles_text : Titles → List ℕ
 titles_text titles = titles.name ++ (byte titles.mark ++ titles.tracker)
 
 abbrev pub sizes_text : Sizes → List ℕ
-sizes_text sizes = u16 0x0104 ++ (u32 sizes.size ++ (u16 sizes.length ++ (u16 sizes.restart ++ u16 sizes.channels)))
+sizes_text sizes =
+    u16 VERSION ++ (u32 sizes.size ++ (u16 sizes.length ++ (u16 sizes.restart ++ u16 sizes.channels)))
 
 abbrev pub settings_text : Settings → List ℕ
-settings_text settings = u16 settings.patterns ++ (u16 settings.instruments ++ (u16 settings.flags ++ (u16 settings.tempo ++ u16 settings.bpm)))
+settings_text settings = u16 settings.patterns
+    ++ (u16 settings.instruments ++ (u16 settings.flags ++ (u16 settings.tempo ++ u16 settings.bpm)))
 
 unfoldable pub header_text : RawHeader → List ℕ
-header_text raw = titles_text raw.titles ++ (sizes_text raw.sizes ++ (settings_text raw.settings ++ raw.orders))
+header_text raw =
+    titles_text raw.titles ++ (sizes_text raw.sizes ++ (settings_text raw.settings ++ raw.orders))
 
 -- ---- what its fields can hold
 
@@ -39,25 +43,25 @@ pub record TitlesFit (titles : Titles) : Type 0 where
 
 pub record SizesFit (sizes : Sizes) : Type 0 where
   pub size : IsNumber 4 sizes.size
-  pub some_table : 21 ≤ sizes.size
-  pub length : sizes.length ≤ 256
+  pub some_table : LEAST_HEADER_SIZE ≤ sizes.size
+  pub length : sizes.length ≤ MOST_ORDERS
   pub restart : IsNumber 2 sizes.restart
   pub some_channels : 1 ≤ sizes.channels
-  pub few_channels : sizes.channels ≤ 32
+  pub few_channels : sizes.channels ≤ MOST_CHANNELS
 
 pub record SettingsFit (settings : Settings) : Type 0 where
-  pub patterns : settings.patterns ≤ 256
-  pub instruments : settings.instruments ≤ 128
+  pub patterns : settings.patterns ≤ MOST_PATTERNS
+  pub instruments : settings.instruments ≤ MOST_INSTRUMENTS
   pub flags : IsNumber 2 settings.flags
   pub tempo : IsNumber 2 settings.tempo
   pub bpm : IsNumber 2 settings.bpm
 
--- the size counts from its own field on, which begins 20 bytes before the order table
+-- the size counts from its own field on
 pub record HeaderFits (raw : RawHeader) : Type 0 where
   pub titles : TitlesFit raw.titles
   pub sizes : SizesFit raw.sizes
   pub settings : SettingsFit raw.settings
-  pub orders : IsField (raw.sizes.size - 20) raw.orders
+  pub orders : IsField (raw.sizes.size - BEFORE_ORDERS) raw.orders
 
 -- ---- what it means
 
@@ -71,10 +75,10 @@ restart_of sizes = if nat_lt sizes.restart (length_of sizes) then sizes.restart 
 
 -- orders that the table doesn't hold are 0, and what it holds beyond the song is dropped
 abbrev pub orders_of : ℕ → List ℕ → List ℕ
-orders_of count table = take count (table ++ replicate 256 0)
+orders_of count table = take count (table ++ replicate MOST_ORDERS 0)
 
-unfoldable pub song_of : RawHeader → List Pattern → List Instrument → Module
-song_of raw patterns instruments = record {
+unfoldable pub song_from : RawHeader → List Pattern → List Instrument → Module
+song_from raw patterns instruments = record {
   name = raw.titles.name;
   tracker = raw.titles.tracker;
   restart = restart_of raw.sizes;

@@ -3,19 +3,17 @@ use Rattle.std.specs.Prelude.{◌≡◌, ℕ, ◌≤◌, ◌*◌, ◌/◌, ◌%�
 use Rattle.ft_types.specs.declared.pattern.Pattern.{Pattern}
 use Rattle.ft_types.specs.declared.pattern.Cell.{Cell}
 use Rattle.ft_format.specs.declared.pattern.PatternHead.{PatternHead}
-use Rattle.ft_format.specs.Canon.{byte, u16, u32}
-use Rattle.ft_format.specs.Fields.{IsNumber, IsField, AllFit, FitsWithin, byte_if_text, IsByteIf}
+use Rattle.ft_format.specs.declared.cell.RawCell.{RawCell}
+use Rattle.ft_format.specs.declared.layout.TheConstants.{PATTERN_HEAD, PACKING, MASK, INSTRUMENT_BIT, VOLUME_BIT, EFFECT_BIT, PARAMETER_BIT, EMPTY_CELL}
+use Rattle.ft_format.specs.declared.limits.TheConstants.{MOST_ROWS, ROWS_FOR_NONE, KEY_OFF}
+use Rattle.ft_format.specs.Fields.{byte, u16, u32, IsNumber, IsField, AllFit, FitsWithin, byte_if_text, IsByteIf}
 
 -- ---- cells
 
--- the first byte, and the five bytes of the cell
-abbrev pub RawCell : Type 0
-RawCell = ℕ × Cell
-
--- Behind a first byte below 128, which is the note itself, the four other bytes follow. Any other
--- first byte is a mask: its five low bits say which of the five bytes follow.
+-- Behind a first byte below the masks, which is the note itself, the four other bytes follow. Any
+-- other first byte is a mask: its five low bits say which of the five bytes follow.
 abbrev pub has : ℕ → ℕ → Bool
-has first bit = nat_lt first 128 || (first / bit % 2 == 1)
+has first bit = nat_lt first MASK || (first / bit % 2 == 1)
 
 abbrev pub note_text : Bool → ℕ → ℕ → List ℕ
 note_text true first note = []
@@ -25,23 +23,25 @@ abbrev pub IsNote : Bool → ℕ → ℕ → Type 0
 IsNote true first note = note ≡ first
 IsNote false first note = IsByteIf (first % 2 == 1) note
 
+-- the first byte, and those of the five bytes that follow it
 unfoldable pub raw_cell_text : RawCell → List ℕ
-raw_cell_text raw = byte raw.0 ++ (note_text (nat_lt raw.0 128) raw.0 raw.1.note ++ (byte_if_text (has raw.0 2) raw.1.instrument
-    ++ (byte_if_text (has raw.0 4) raw.1.volume ++ (byte_if_text (has raw.0 8) raw.1.effect ++ byte_if_text (has raw.0 16) raw.1.parameter))))
+raw_cell_text raw = byte raw.first ++ (note_text (nat_lt raw.first MASK) raw.first raw.cell.note
+    ++ (byte_if_text (has raw.first INSTRUMENT_BIT) raw.cell.instrument
+    ++ (byte_if_text (has raw.first VOLUME_BIT) raw.cell.volume
+    ++ (byte_if_text (has raw.first EFFECT_BIT) raw.cell.effect
+    ++ byte_if_text (has raw.first PARAMETER_BIT) raw.cell.parameter))))
 
-unfoldable pub RawCellFits : RawCell → Type 0
-RawCellFits raw = IsNumber 1 raw.0 × (IsNote (nat_lt raw.0 128) raw.0 raw.1.note × (IsByteIf (has raw.0 2) raw.1.instrument
-    × (IsByteIf (has raw.0 4) raw.1.volume × (IsByteIf (has raw.0 8) raw.1.effect × IsByteIf (has raw.0 16) raw.1.parameter))))
+pub record RawCellFits (raw : RawCell) : Type 0 where
+  pub first : IsNumber 1 raw.first
+  pub note : IsNote (nat_lt raw.first MASK) raw.first raw.cell.note
+  pub instrument : IsByteIf (has raw.first INSTRUMENT_BIT) raw.cell.instrument
+  pub volume : IsByteIf (has raw.first VOLUME_BIT) raw.cell.volume
+  pub effect : IsByteIf (has raw.first EFFECT_BIT) raw.cell.effect
+  pub parameter : IsByteIf (has raw.first PARAMETER_BIT) raw.cell.parameter
 
 -- a note past the key off is none
 abbrev pub cell_of : RawCell → Cell
-cell_of raw = record {
-  note = if nat_le raw.1.note 97 then raw.1.note else 0;
-  instrument = raw.1.instrument;
-  volume = raw.1.volume;
-  effect = raw.1.effect;
-  parameter = raw.1.parameter;
-}
+cell_of raw = record raw.cell { note = if nat_le raw.cell.note KEY_OFF then raw.cell.note else 0 }
 
 -- ---- patterns
 
@@ -52,39 +52,41 @@ pub record RawPattern : Type 0 where
   pub cells : List RawCell
   pub surplus : List ℕ
 
--- header length, packing 0, rows, bytes of data
+-- header length, packing, rows, bytes of data
 abbrev pub pattern_head_text : PatternHead → List ℕ
-pattern_head_text head = u32 head.size ++ (byte 0 ++ (u16 head.rows ++ u16 head.packed))
+pattern_head_text head = u32 head.size ++ (byte PACKING ++ (u16 head.rows ++ u16 head.packed))
 
 pub record PatternHeadFits (head : PatternHead) : Type 0 where
   pub size : IsNumber 4 head.size
-  pub whole : 9 ≤ head.size
-  pub rows : head.rows ≤ 256
+  pub whole : PATTERN_HEAD ≤ head.size
+  pub rows : head.rows ≤ MOST_ROWS
   pub packed : IsNumber 2 head.packed
 
 unfoldable pub pattern_text : RawPattern → List ℕ
-pattern_text raw = pattern_head_text raw.head ++ (raw.skipped ++ (flat_map raw_cell_text raw.cells ++ raw.surplus))
+pattern_text raw =
+    pattern_head_text raw.head ++ (raw.skipped ++ (flat_map raw_cell_text raw.cells ++ raw.surplus))
 
 -- no data, or so many cells and a surplus in as many bytes as the head says
 abbrev pub DataFits : Bool → ℕ → ℕ → List RawCell × List ℕ → Type 0
 DataFits true count packed x = x ≡ ([], [])
-DataFits false count packed x = FitsWithin packed (flat_map raw_cell_text) (AllFit count RawCellFits) x
+DataFits false count packed x =
+    FitsWithin packed (flat_map raw_cell_text) (AllFit count RawCellFits) x
 
 -- 0 rows are read as 64
 abbrev pub rows_of : PatternHead → ℕ
-rows_of head = if head.rows == 0 then 64 else head.rows
+rows_of head = if head.rows == 0 then ROWS_FOR_NONE else head.rows
 
 pub record RawPatternFits (channels : ℕ) (raw : RawPattern) : Type 0 where
   pub head : PatternHeadFits raw.head
-  pub skipped : IsField (raw.head.size - 9) raw.skipped
-  pub cells : DataFits (raw.head.packed == 0) (rows_of raw.head * channels) raw.head.packed (raw.cells, raw.surplus)
-
-abbrev pub empty_cell : Cell
-empty_cell = record { note = 0; instrument = 0; volume = 0; effect = 0; parameter = 0 }
+  pub skipped : IsField (raw.head.size - PATTERN_HEAD) raw.skipped
+  pub cells : DataFits (raw.head.packed == 0) (rows_of raw.head * channels) raw.head.packed
+      (raw.cells, raw.surplus)
 
 -- a pattern without data has empty cells
 unfoldable pub pattern_of : ℕ → RawPattern → Pattern
 pattern_of channels raw = record {
   rows = rows_of raw.head;
-  cells = if raw.head.packed == 0 then replicate (rows_of raw.head * channels) empty_cell else map cell_of raw.cells;
+  cells = if raw.head.packed == 0
+      then replicate (rows_of raw.head * channels) EMPTY_CELL
+      else map cell_of raw.cells;
 }

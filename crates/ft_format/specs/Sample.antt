@@ -3,16 +3,22 @@ use Rattle.std.specs.Prelude.{◌≡◌, ℕ, ◌+◌, ◌-◌, ◌*◌, ◌/◌
 use Rattle.std.specs.Int.{w8, w16, cast_signed}
 use Rattle.ft_types.specs.declared.sample.Sample.{Sample}
 use Rattle.ft_format.specs.declared.sample.SampleHeader.{SampleHeader}
-use Rattle.ft_format.specs.Canon.{byte, u32}
-use Rattle.ft_format.specs.Fields.{IsNumber, IsField}
+use Rattle.ft_format.specs.declared.limits.TheConstants.{MOST_FRAMES}
+use Rattle.ft_format.specs.Fields.{byte, u32, IsNumber, IsField}
 
 -- ---- the header
 
--- length, loop start and loop length in bytes; volume, finetune, type, panning, relative note, a byte
--- that is skipped; name
+-- length, loop start and loop length in bytes
+abbrev pub lengths_text : SampleHeader → List ℕ
+lengths_text header = u32 header.length ++ (u32 header.loop_start ++ u32 header.loop_len)
+
+-- volume, finetune, type, panning, relative note, a byte that is skipped
+abbrev pub numbers_text : SampleHeader → List ℕ
+numbers_text header = byte header.volume ++ (byte header.finetune ++ (byte header.kind
+    ++ (byte header.panning ++ (byte header.relative ++ byte header.skipped))))
+
 unfoldable pub sample_header_text : SampleHeader → List ℕ
-sample_header_text h = (u32 h.length ++ (u32 h.loop_start ++ u32 h.loop_len))
-    ++ ((byte h.volume ++ (byte h.finetune ++ (byte h.kind ++ (byte h.panning ++ (byte h.relative ++ byte h.skipped))))) ++ h.name)
+sample_header_text header = lengths_text header ++ (numbers_text header ++ header.name)
 
 -- bit 5 of the type says two channels, bit 4 frames of 16 bits
 abbrev pub is_stereo : SampleHeader → Bool
@@ -25,8 +31,8 @@ is_wide header = header.kind / 16 % 2 == 1
 abbrev pub in_frames : SampleHeader → ℕ → ℕ
 in_frames header bytes = if is_wide header then bytes / 2 else bytes
 
-abbrev pub frames_of : SampleHeader → ℕ
-frames_of header = in_frames header header.length
+abbrev pub frame_count : SampleHeader → ℕ
+frame_count header = in_frames header header.length
 
 pub record SampleHeaderFits (header : SampleHeader) : Type 0 where
   pub length : IsNumber 4 header.length
@@ -40,7 +46,7 @@ pub record SampleHeaderFits (header : SampleHeader) : Type 0 where
   pub skipped : IsNumber 1 header.skipped
   pub name : IsField 22 header.name
   pub mono : is_stereo header ≡ false
-  pub few_frames : frames_of header ≤ 983040
+  pub few_frames : frame_count header ≤ MOST_FRAMES
 
 -- ---- the loop
 
@@ -50,10 +56,10 @@ loop_kind_of header = min 2 (header.kind % 4)
 
 -- the loop's numbers, brought into the sample
 abbrev pub loop_start_of : SampleHeader → ℕ
-loop_start_of header = min (frames_of header) (in_frames header header.loop_start)
+loop_start_of header = min (frame_count header) (in_frames header header.loop_start)
 
 abbrev pub loop_len_of : SampleHeader → ℕ
-loop_len_of header = min (frames_of header - loop_start_of header) (in_frames header header.loop_len)
+loop_len_of header = min (frame_count header - loop_start_of header) (in_frames header header.loop_len)
 
 -- no loop by its kind, or none that has a frame
 abbrev pub is_unlooped : SampleHeader → Bool
@@ -64,7 +70,8 @@ is_unlooped header = (loop_kind_of header == 0) || (loop_len_of header == 0)
 -- each number is the step from the one before it, which wraps at `span`
 abbrev pub sums_from : ℕ → ℕ → List ℕ → List ℕ
 sums_from span before [] = []
-sums_from span before (step ∷ steps) = (before + step) % span ∷ sums_from span ((before + step) % span) steps
+sums_from span before (step ∷ steps) =
+    (before + step) % span ∷ sums_from span ((before + step) % span) steps
 
 -- numbers of two bytes, the low one first; an odd last byte is skipped
 abbrev pub pairs_of : List ℕ → List ℕ
@@ -91,8 +98,8 @@ pub record RawSampleFits (raw : RawSample) : Type 0 where
 
 -- ---- what it means
 
-unfoldable pub sample_of : SampleHeader → List ℕ → Sample
-sample_of header steps = record {
+unfoldable pub sample_from : SampleHeader → List ℕ → Sample
+sample_from header steps = record {
   name = header.name;
   volume = min 64 header.volume;
   finetune = cast_signed w8 header.finetune;

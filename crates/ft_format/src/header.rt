@@ -1,7 +1,7 @@
 //! The header's fields.
 
 /// The names, bytes 17 to 57.
-#[derive(Clone, Copy, Debug)]
+#[derive(Clone, Copy)]
 pub struct Titles {
     /// Module name: raw bytes.
     pub name: [u8; 20],
@@ -12,7 +12,7 @@ pub struct Titles {
 }
 
 /// Bytes 60 to 69, behind the version.
-#[derive(Clone, Copy, Debug)]
+#[derive(Clone, Copy)]
 pub struct Sizes {
     /// The bytes of the header from this field on, at least 21.
     pub size: u32,
@@ -25,7 +25,7 @@ pub struct Sizes {
 }
 
 /// Bytes 70 to 79.
-#[derive(Clone, Copy, Debug)]
+#[derive(Clone, Copy)]
 pub struct Settings {
     /// At most 256.
     pub patterns: u16,

@@ -1,7 +1,7 @@
 //! The fields of a pattern.
 
 /// The head of a pattern, 9 bytes; its packing is the one known.
-#[derive(Clone, Copy, Debug)]
+#[derive(Clone, Copy)]
 pub struct PatternHead {
     /// The bytes of the head, at least 9.
     pub size: u32,

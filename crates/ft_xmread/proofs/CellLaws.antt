@@ -1,12 +1,13 @@
 -- The two laws of a cell.
-use Rattle.std.proofs.Common.{◌≡◌, ℕ, ◌%◌, Bool, true, false, cond, ◌++◌, Ok, refl, subst}
+use Rattle.std.proofs.Common.{◌≡◌, ℕ, ◌%◌, Bool, true, false, cond, List, ◌++◌, Ok, refl, subst}
 use Rattle.std.specs.Prelude.{nat_lt, nat_eq}
-use Rattle.ft_format.specs.Canon.{byte}
-use Rattle.ft_format.specs.Fields.{IsNumber, AreBytes, byte_if_text, IsByteIf}
+use Rattle.ft_format.specs.declared.cell.RawCell.{RawCell}
+use Rattle.ft_format.specs.Fields.{byte, IsNumber, AreBytes, byte_if_text, IsByteIf}
 use Rattle.ft_format.specs.Pattern.{has, note_text, IsNote, raw_cell_text, RawCellFits, cell_of}
-use Rattle.ft_xmread.specs.Reading.{Place, Reading, number_at, both, byte_if}
-use Rattle.ft_xmread.specs.Pattern.{note_at, raw_cell_at, inside, cell_at}
-use Rattle.ft_xmread.proofs.Lawful.{Lawful, Takes, byte_law, byte_if_law, both_law, pair_law, kept_law, ok_is, no_text}
+use Rattle.ft_xmread.specs.Reader.{Place, Reading, number_at, seen, byte_if}
+use Rattle.ft_xmread.specs.Pattern.{note_at, raw_cell_at, inside, cell_spelled_at}
+use Rattle.ft_xmread.proofs.Lawful.{Lawful, Takes, Alike, both, byte_law, byte_if_law, both_law, pair_law, kept_law, refit_law, alike_law, next_alike, ok_is, no_text}
+use Rattle.ft_xmread.proofs.Chains.{do5, alike5}
 use Rattle.ft_xmread.proofs.Spelled.{Spelled, same, lawful_spelled, inside_spelled, seen_spelled}
 
 -- ---- the note
@@ -35,21 +36,54 @@ note_law first = note_if_law (nat_lt first 128) first
 
 -- ---- the cell
 
-raw_cell_law : Lawful raw_cell_at raw_cell_text RawCellFits
-unfolding raw_cell_at raw_cell_text RawCellFits
-raw_cell_law = kept_law _ (λ raw. (raw.0, (raw.1.note, (raw.1.instrument, (raw.1.volume, (raw.1.effect, raw.1.parameter)))))) _ _ _
-    (both_law (number_at 1)
-    (λ first. both (note_at first) (λ _. both (byte_if (has first 2)) (λ _. both (byte_if (has first 4)) (λ _. both (byte_if (has first 8)) (λ _. byte_if (has first 16))))))
-    byte
-    (λ first x. note_text (nat_lt first 128) first x.0 ++ (byte_if_text (has first 2) x.1.0 ++ (byte_if_text (has first 4) x.1.1.0 ++ (byte_if_text (has first 8) x.1.1.1.0 ++ byte_if_text (has first 16) x.1.1.1.1))))
-    (IsNumber 1)
-    (λ first x. IsNote (nat_lt first 128) first x.0 × (IsByteIf (has first 2) x.1.0 × (IsByteIf (has first 4) x.1.1.0 × (IsByteIf (has first 8) x.1.1.1.0 × IsByteIf (has first 16) x.1.1.1.1))))
-    byte_law
+abbrev Parts : Type 0
+Parts = ℕ × (ℕ × (ℕ × (ℕ × (ℕ × ℕ))))
+
+abbrev make : Parts → RawCell
+make x = record { first = x.0; cell = record { note = x.1.0; instrument = x.1.1.0; volume = x.1.1.1.0; effect = x.1.1.1.1.0; parameter = x.1.1.1.1.1 } }
+
+abbrev parts_of : RawCell → Parts
+parts_of raw = (raw.first, (raw.cell.note, (raw.cell.instrument, (raw.cell.volume, (raw.cell.effect, raw.cell.parameter)))))
+
+-- behind the first byte
+abbrev others_at : ℕ → Reading (ℕ × (ℕ × (ℕ × (ℕ × ℕ))))
+others_at first = both (note_at first) (λ _. both (byte_if (has first 2)) (λ _. both (byte_if (has first 4)) (λ _. both (byte_if (has first 8)) (λ _. byte_if (has first 16)))))
+
+abbrev OthersFit : ℕ → ℕ × (ℕ × (ℕ × (ℕ × ℕ))) → Type 0
+OthersFit first x = IsNote (nat_lt first 128) first x.0 × (IsByteIf (has first 2) x.1.0 × (IsByteIf (has first 4) x.1.1.0 × (IsByteIf (has first 8) x.1.1.1.0 × IsByteIf (has first 16) x.1.1.1.1)))
+
+abbrev others_text : ℕ → ℕ × (ℕ × (ℕ × (ℕ × ℕ))) → List ℕ
+others_text first x = note_text (nat_lt first 128) first x.0 ++ (byte_if_text (has first 2) x.1.0 ++ (byte_if_text (has first 4) x.1.1.0 ++ (byte_if_text (has first 8) x.1.1.1.0 ++ byte_if_text (has first 16) x.1.1.1.1)))
+
+abbrev PartsFit : RawCell → Type 0
+PartsFit raw = IsNumber 1 raw.first × OthersFit raw.first (parts_of raw).1
+
+abbrev raw_cell_parts : Reading RawCell
+raw_cell_parts = seen make (both (number_at 1) others_at)
+
+abbrev made : ℕ → ℕ → ℕ → ℕ → ℕ → ℕ → RawCell
+made first note instrument volume effect parameter = record { first = first; cell = record { note = note; instrument = instrument; volume = volume; effect = effect; parameter = parameter } }
+
+alike : Alike raw_cell_at raw_cell_parts
+unfolding raw_cell_at
+alike = next_alike make (number_at 1) others_at
+    (λ first. do5 (note_at first) (byte_if (has first 2)) (byte_if (has first 4)) (byte_if (has first 8)) (byte_if (has first 16)) (made first))
+    (λ first. alike5 (note_at first) (byte_if (has first 2)) (byte_if (has first 4)) (byte_if (has first 8)) (byte_if (has first 16)) (made first))
+
+parts_law : Lawful raw_cell_parts raw_cell_text PartsFit
+unfolding raw_cell_text
+parts_law = kept_law make parts_of _ _ _
+    (both_law (number_at 1) others_at byte others_text (IsNumber 1) OthersFit byte_law
     (λ first _. pair_law _ _ _ _ _ _ (note_law first) (pair_law _ _ _ _ _ _ (byte_if_law (has first 2)) (pair_law _ _ _ _ _ _ (byte_if_law (has first 4))
     (pair_law _ _ _ _ _ _ (byte_if_law (has first 8)) (byte_if_law (has first 16)))))))
     (λ _ _. refl) (λ _. refl)
 
-pub cell_law : (pattern : ℕ) → Spelled (cell_at pattern) raw_cell_text RawCellFits cell_of
-unfolding cell_at
+raw_cell_law : Lawful raw_cell_at raw_cell_text RawCellFits
+raw_cell_law = alike_law raw_cell_at raw_cell_parts raw_cell_text RawCellFits alike (refit_law raw_cell_parts raw_cell_text PartsFit RawCellFits parts_law
+    (λ raw f. record { first = f.0; note = f.1.0; instrument = f.1.1.0; volume = f.1.1.1.0; effect = f.1.1.1.1.0; parameter = f.1.1.1.1.1 })
+    (λ raw g. (g.first, (g.note, (g.instrument, (g.volume, (g.effect, g.parameter)))))))
+
+pub cell_law : (pattern : ℕ) → Spelled (cell_spelled_at pattern) raw_cell_text RawCellFits cell_of
+unfolding cell_spelled_at
 cell_law pattern = seen_spelled cell_of (inside pattern raw_cell_at) raw_cell_text RawCellFits same
     (inside_spelled pattern raw_cell_at raw_cell_text RawCellFits same (lawful_spelled raw_cell_at raw_cell_text RawCellFits raw_cell_law))

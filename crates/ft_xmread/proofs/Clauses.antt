@@ -8,9 +8,9 @@ use Rattle.ft_format.specs.Canon.{canon}
 use Rattle.ft_format.specs.Spelling.{Spells}
 use Rattle.ft_xmread.specs.declared.fault.XmFault.{XmFault}
 use Rattle.ft_xmread.specs.declared.fault.XmFault.TheVariants as faults
-use Rattle.ft_xmread.specs.Whole.{song_in, Answers}
-use Rattle.ft_xmread.specs.Song.{IsFirstWrong, HasFault, IsFaultOf, Reads, Refuses}
-use Rattle.ft_xmread.proofs.WholeLaws.{gives_song, song_gives, gives_wrong}
+use Rattle.ft_xmread.specs.File.{song_in, Answers}
+use Rattle.ft_xmread.specs.Song.{IsFirstWrong, HasFault, IsFaultOf, IsThisSong, IsRefusedBy}
+use Rattle.ft_xmread.proofs.FileLaws.{gives_song, song_gives, gives_wrong}
 
 abbrev read_as : Module → Result Module XmFault
 read_as song = Ok song
@@ -50,21 +50,21 @@ given_fault file (faults.Stereo instrument sample) a = inr a
 given_fault file (faults.TooLong instrument sample frames) a = inr a
 given_fault file faults.NoMemory a = inl refl
 
-pub only : (file : List ℕ) (r : Result Module XmFault) → Answers r (song_in file) → (song : Module) → Spells file song → Reads r song
+pub only : (file : List ℕ) (r : Result Module XmFault) → Answers r (song_in file) → (song : Module) → Spells file song → IsThisSong r song
 only file (Ok read) a song s = same_song read song (sym a ∙ song_gives file song s)
 only file (Err f) a song s = elim (given_fault file f a) [
   | inl wanting ↦ wanting
   | inr given ↦ absurd (not_both song f (sym (song_gives file song s) ∙ given))
 ]
 
-pub canonical : (file : List ℕ) (r : Result Module XmFault) → Answers r (song_in file) → (song : Module) → file ≡ canon song → Spells (canon song) song → Reads r song
+pub canonical : (file : List ℕ) (r : Result Module XmFault) → Answers r (song_in file) → (song : Module) → file ≡ canon song → Spells (canon song) song → IsThisSong r song
 canonical file r a song e s = only file r a song (subst (λ (bytes : List ℕ). Spells bytes song) (sym e) s)
 
 pub fault : (file : List ℕ) (r : Result Module XmFault) → Answers r (song_in file) → IfErr r (IsFaultOf file)
 fault file (Ok read) a = tt
 fault file (Err f) a = given_fault file f a
 
-pub refused : (file : List ℕ) (r : Result Module XmFault) → Answers r (song_in file) → (f : XmFault) → HasFault file f → Refuses r f
+pub refused : (file : List ℕ) (r : Result Module XmFault) → Answers r (song_in file) → (f : XmFault) → HasFault file f → IsRefusedBy r f
 refused file (Ok song) a f h = not_both song f (sym a ∙ h)
 refused file (Err g) a f h = elim (given_fault file g a) [
   | inl wanting ↦ inr wanting

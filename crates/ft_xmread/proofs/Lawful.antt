@@ -10,12 +10,11 @@ use Rattle.byteorder.specs.Numbers.{little_number-reads_back, length-bytes_low_f
 use Rattle.std.specs.List.{flat_map}
 use Rattle.std.proofs.Common.{All, zero, suc}
 use Rattle.std.proofs.lemmas.List.Elements.{All-head, All-tail, All-nil, All-cons}
-use Rattle.ft_format.specs.Canon.{byte}
-use Rattle.ft_format.specs.Fields.{IsNumber, AreBytes, IsField, AllFit, FitsWithin, byte_if_text, IsByteIf}
+use Rattle.ft_format.specs.Fields.{byte, IsNumber, AreBytes, IsField, AllFit, FitsWithin, byte_if_text, IsByteIf}
 use Rattle.ft_xmread.specs.declared.fault.XmFault.{XmFault}
 use Rattle.ft_xmread.specs.declared.fault.XmFault.TheVariants.{Count}
 use Rattle.std.specs.Prelude.{nat_lt}
-use Rattle.ft_xmread.specs.Reading.{Place, Reading, ◌>>=◌, field_at, number_at, both, checked, seen, count_at, byte_if, piece_at, within, times}
+use Rattle.ft_xmread.specs.Reader.{Place, Reading, ◌>>=◌, field_at, number_at, and_then, checked, seen, count_at, byte_if, piece_at, in_piece, times}
 
 pub AreBytes-drop : (n : ℕ) (bytes : List ℕ) → AreBytes bytes → AreBytes (drop n bytes)
 AreBytes-drop n bytes h i = rw get_or-drop (h (n + i))
@@ -125,6 +124,13 @@ number_law n back = record {
 }
 
 -- ---- a part and another
+
+-- a part, and then another that may depend on it, and both of them
+abbrev pub both : {A B : Type 0} → Reading A → (A → Reading B) → Reading (A × B)
+both one other p = do
+  a ← one p
+  b ← other a.0 a.1
+  Ok ((a.0, b.0), b.1)
 
 abbrev pub both_text : {A B : Type 0} → (A → List ℕ) → (A → B → List ℕ) → A × B → List ℕ
 both_text t u x = t x.0 ++ u x.0 x.1
@@ -291,7 +297,7 @@ abbrev pub within_text : {A : Type 0} → (A → List ℕ) → A × List ℕ →
 within_text t x = t x.0 ++ x.1
 
 within_takes : {A : Type 0} (n : ℕ) (one : Reading A) (t : A → List ℕ) (F : A → Type 0) → Lawful one t F
-    → (p : Place) (x : (A × List ℕ) × Place) → AreBytes p.left → within n one p ≡ Ok x → Takes (within_text t) (FitsWithin n t F) p x
+    → (p : Place) (x : (A × List ℕ) × Place) → AreBytes p.left → in_piece n one p ≡ Ok x → Takes (within_text t) (FitsWithin n t F) p x
 unfolding piece_at
 within_takes {A = A} n one t F law p x bytes e =
     let g = bind_ok (piece_at n p) _ x e in
@@ -310,7 +316,7 @@ within_takes {A = A} n one t F law p x bytes e =
       bytes = s.bytes;
     })
 
-pub within_law : {A : Type 0} (n : ℕ) (one : Reading A) (t : A → List ℕ) (F : A → Type 0) → Lawful one t F → Lawful (within n one) (within_text t) (FitsWithin n t F)
+pub within_law : {A : Type 0} (n : ℕ) (one : Reading A) (t : A → List ℕ) (F : A → Type 0) → Lawful one t F → Lawful (in_piece n one) (within_text t) (FitsWithin n t F)
 unfolding piece_at
 within_law n one t F law = record {
   again = λ at x rest fits. rw (field_again at (t x.0 ++ x.1) rest n fits.whole, law.again at x.0 x.1 fits.fits) refl;
@@ -355,3 +361,43 @@ times_law {A = A} one t F law first n = record {
   again = λ at xs rest fits. subst (λ (k : ℕ). times one first k (record { at = at; left = flat_map t xs ++ rest }) ≡ Ok (xs, record { at = at + length (flat_map t xs); left = rest })) fits.count (times_again one t F law first at xs rest fits.each);
   takes = λ p x bytes e. times_takes one t F law first n p x bytes e;
 }
+
+-- ---- parts in `do` form
+
+-- two readings that answer alike at each place
+abbrev pub Alike : {A : Type 0} → Reading A → Reading A → Type 0
+Alike one other = (p : Place) → one p ≡ other p
+
+pub alike_law : {A : Type 0} (one other : Reading A) (t : A → List ℕ) (F : A → Type 0) → Alike one other → Lawful other t F → Lawful one t F
+alike_law one other t F same law = record {
+  again = λ at x rest fits. same (record { at = at; left = t x ++ rest }) ∙ law.again at x rest fits;
+  takes = λ p x bytes e. law.takes p x bytes (sym (same p) ∙ e);
+}
+
+abbrev paired : {A B : Type 0} → A → B × Place → Result ((A × B) × Place) XmFault
+paired a b = Ok ((a, b.0), b.1)
+
+abbrev viewed : {A B : Type 0} → (A → B) → A × Place → Result (B × Place) XmFault
+viewed view x = Ok (view x.0, x.1)
+
+seen_both : {A B C : Type 0} (view : A × B → C) (a : A) (r : Result (B × Place) XmFault) → (r >>= viewed (λ b. view (a, b))) ≡ ((r >>= paired a) >>= viewed view)
+seen_both view a (Ok b) = refl
+seen_both view a (Err f) = refl
+
+next_step : {A B C : Type 0} (view : A × B → C) (other : A → Reading B) (whole : A → Reading C) (r : Result (A × Place) XmFault)
+    → ((a : A) → Alike (whole a) (seen (λ b. view (a, b)) (other a)))
+    → (r >>= λ x. whole x.0 x.1) ≡ ((r >>= λ x. (other x.0 x.1 >>= paired x.0)) >>= viewed view)
+next_step view other whole (Ok x) same = same x.0 x.1 ∙ seen_both view x.0 (other x.0 x.1)
+next_step view other whole (Err f) same = refl
+
+-- a part and a whole, where that sees what comes next
+pub next_alike : {A B C : Type 0} (view : A × B → C) (one : Reading A) (other : A → Reading B) (whole : A → Reading C)
+    → ((a : A) → Alike (whole a) (seen (λ b. view (a, b)) (other a))) → Alike (and_then one whole) (seen view (both one other))
+next_alike view one other whole same p = next_step view other whole (one p) same
+
+seen_same_step : {A : Type 0} (r : Result (A × Place) XmFault) → r ≡ (r >>= viewed (λ x. x))
+seen_same_step (Ok x) = refl
+seen_same_step (Err f) = refl
+
+pub seen_same : {A : Type 0} (one : Reading A) → Alike one (seen (λ x. x) one)
+seen_same one p = seen_same_step (one p)

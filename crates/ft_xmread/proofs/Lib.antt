@@ -1,4 +1,5 @@
 pub mod Lawful
+pub mod Chains
 pub mod Loop
 pub mod Identified
 pub mod IdentifiedLaws
@@ -14,6 +15,6 @@ pub mod SampleLaws
 pub mod InstrumentLaws
 pub mod SongLaws
 pub mod Quiet
-pub mod WholeLaws
+pub mod FileLaws
 pub mod Clauses
 pub mod SampleLoop

@@ -3,7 +3,7 @@ use Rattle.std.proofs.Common.{◌≡◌, ℕ, suc, ◌-◌, ◌+◌, ◌≤◌, 
 use Rattle.std.proofs.lemmas.List.{append-nil}
 use Rattle.ft_xmread.specs.declared.fault.XmFault.{XmFault}
 use Rattle.ft_xmread.specs.declared.fault.XmFault.TheVariants as faults
-use Rattle.ft_xmread.specs.Reading.{Place, Reading, ◌>>=◌, Fails, times}
+use Rattle.ft_xmread.specs.Reader.{Place, Reading, ◌>>=◌, Fails, times}
 
 -- what was read before, and what is still read
 abbrev pub with_front : {A : Type 0} → List A → Result (List A × Place) XmFault → Result (List A × Place) XmFault

@@ -7,29 +7,110 @@ use Rattle.std.proofs.lemmas.List.Elements.{All-head, All-tail, All-nil, All-con
 use Rattle.ft_types.specs.declared.sample.Sample.{Sample}
 use Rattle.ft_format.specs.declared.sample.SampleHeader.{SampleHeader}
 use Rattle.ft_format.specs.Fields.{IsNumber, AreBytes, IsField, AllFit, FitsWithin}
-use Rattle.ft_format.specs.Sample.{sample_header_text, is_stereo, frames_of, SampleHeaderFits, RawSample, RawSampleFits, sample_of}
+use Rattle.ft_format.specs.Sample.{sample_header_text, is_stereo, frame_count, SampleHeaderFits, RawSample, RawSampleFits, sample_from}
 use Rattle.ft_xmread.specs.declared.fault.XmFault.TheVariants.{Stereo, TooLong}
-use Rattle.ft_xmread.specs.Reading.{Place, field_at, both, seen, times, within}
+use Rattle.ft_xmread.specs.Reader.{Place, Reading, field_at, number_at, and_then, seen, times, in_piece}
 use Rattle.ft_xmread.specs.Sample.{sample_fields_at, sample_header_at}
 use Rattle.ft_xmread.specs.Instrument.{samples_at, headers_and_samples_at}
 use Rattle.ft_xmread.proofs.Numbers.{not_lt, fits_limit}
-use Rattle.ft_xmread.proofs.Lawful.{Lawful, Passes, within_text, bind_ok, ok_is, no_text, field_again, field_law, byte_law, u32_law, pair_law, kept_law, within_law, checked_law, seen_law, refit_law, times_law}
-use Rattle.ft_xmread.proofs.Spelled.{Reached, Spelled, same, lawful_spelled, seen_spelled, recast, both_spelled}
+use Rattle.ft_xmread.proofs.Chains.{do5, both5, alike5}
+use Rattle.ft_xmread.proofs.Lawful.{Lawful, Alike, both, alike_law, next_alike, seen_same, Passes, within_text, bind_ok, ok_is, no_text, field_again, field_law, byte_law, u32_law, pair_law, kept_law, within_law, checked_law, seen_law, refit_law, times_law}
+use Rattle.ft_xmread.proofs.Spelled.{Reached, Spelled, same, alike_spelled, lawful_spelled, seen_spelled, recast, both_spelled}
 
 -- ---- a header
 
+abbrev Fields : Type 0
+Fields = ℕ × (ℕ × (ℕ × (ℕ × (ℕ × (ℕ × (ℕ × (ℕ × (ℕ × List ℕ))))))))
+
+abbrev fields_of : SampleHeader → Fields
+fields_of h = (h.length, (h.loop_start, (h.loop_len, (h.volume, (h.finetune, (h.kind, (h.panning, (h.relative, (h.skipped, h.name)))))))))
+
+abbrev make : Fields → SampleHeader
+make x = record {
+  length = x.0;
+  loop_start = x.1.0;
+  loop_len = x.1.1.0;
+  volume = x.1.1.1.0;
+  finetune = x.1.1.1.1.0;
+  kind = x.1.1.1.1.1.0;
+  panning = x.1.1.1.1.1.1.0;
+  relative = x.1.1.1.1.1.1.1.0;
+  skipped = x.1.1.1.1.1.1.1.1.0;
+  name = x.1.1.1.1.1.1.1.1.1;
+}
+
 abbrev FieldsFit : SampleHeader → Type 0
-FieldsFit h = (IsNumber 4 h.length × (IsNumber 4 h.loop_start × IsNumber 4 h.loop_len))
-    × ((IsNumber 1 h.volume × (IsNumber 1 h.finetune × (IsNumber 1 h.kind × (IsNumber 1 h.panning × (IsNumber 1 h.relative × IsNumber 1 h.skipped))))) × IsField 22 h.name)
+FieldsFit h = IsNumber 4 h.length × (IsNumber 4 h.loop_start × (IsNumber 4 h.loop_len
+    × (IsNumber 1 h.volume × (IsNumber 1 h.finetune × (IsNumber 1 h.kind × (IsNumber 1 h.panning × (IsNumber 1 h.relative × (IsNumber 1 h.skipped × IsField 22 h.name))))))))
+
+-- the last five fields, and those before them one at a time
+abbrev last_parts : Reading (ℕ × (ℕ × (ℕ × (ℕ × List ℕ))))
+last_parts = both5 (number_at 1) (number_at 1) (number_at 1) (number_at 1) (field_at 22)
+
+abbrev fields_parts : Reading SampleHeader
+fields_parts = seen make (both (number_at 4) (λ _. both (number_at 4) (λ _. both (number_at 4) (λ _. both (number_at 1) (λ _. both (number_at 1) (λ _. last_parts))))))
+
+abbrev made : ℕ → ℕ → ℕ → ℕ → ℕ → ℕ → ℕ → ℕ → ℕ → List ℕ → SampleHeader
+made length loop_start loop_len volume finetune kind panning relative skipped name = record {
+  length = length;
+  loop_start = loop_start;
+  loop_len = loop_len;
+  volume = volume;
+  finetune = finetune;
+  kind = kind;
+  panning = panning;
+  relative = relative;
+  skipped = skipped;
+  name = name;
+}
+
+abbrev last5 : ℕ → ℕ → ℕ → ℕ → ℕ → Reading SampleHeader
+last5 a b d e f = do5 (number_at 1) (number_at 1) (number_at 1) (number_at 1) (field_at 22) (made a b d e f)
+
+abbrev last6 : ℕ → ℕ → ℕ → ℕ → Reading SampleHeader
+last6 a b d e = and_then (number_at 1) (last5 a b d e)
+
+abbrev last7 : ℕ → ℕ → ℕ → Reading SampleHeader
+last7 a b d = and_then (number_at 1) (last6 a b d)
+
+abbrev last8 : ℕ → ℕ → Reading SampleHeader
+last8 a b = and_then (number_at 4) (last7 a b)
+
+abbrev last9 : ℕ → Reading SampleHeader
+last9 a = and_then (number_at 4) (last8 a)
+
+abbrev Last6 : Type 0
+Last6 = ℕ × (ℕ × (ℕ × (ℕ × (ℕ × List ℕ))))
+
+alike6 : (a b d e : ℕ) → Alike (last6 a b d e) (seen (λ (x : Last6). make (a, (b, (d, (e, x))))) (both (number_at 1) (λ _. last_parts)))
+alike6 a b d e = next_alike (λ (x : Last6). make (a, (b, (d, (e, x))))) (number_at 1) (λ _. last_parts) (last5 a b d e)
+    (λ f. alike5 (number_at 1) (number_at 1) (number_at 1) (number_at 1) (field_at 22) (made a b d e f))
+
+alike7 : (a b d : ℕ) → Alike (last7 a b d) (seen (λ (x : ℕ × Last6). make (a, (b, (d, x)))) (both (number_at 1) (λ _. both (number_at 1) (λ _. last_parts))))
+alike7 a b d = next_alike (λ (x : ℕ × Last6). make (a, (b, (d, x)))) (number_at 1) (λ _. both (number_at 1) (λ _. last_parts)) (last6 a b d) (alike6 a b d)
+
+alike8 : (a b : ℕ) → Alike (last8 a b) (seen (λ (x : ℕ × (ℕ × Last6)). make (a, (b, x))) (both (number_at 4) (λ _. both (number_at 1) (λ _. both (number_at 1) (λ _. last_parts)))))
+alike8 a b = next_alike (λ (x : ℕ × (ℕ × Last6)). make (a, (b, x))) (number_at 4) (λ _. both (number_at 1) (λ _. both (number_at 1) (λ _. last_parts))) (last7 a b) (alike7 a b)
+
+alike9 : (a : ℕ) → Alike (last9 a) (seen (λ (x : ℕ × (ℕ × (ℕ × Last6))). make (a, x)) (both (number_at 4) (λ _. both (number_at 4) (λ _. both (number_at 1) (λ _. both (number_at 1) (λ _. last_parts))))))
+alike9 a = next_alike (λ (x : ℕ × (ℕ × (ℕ × Last6))). make (a, x)) (number_at 4) (λ _. both (number_at 4) (λ _. both (number_at 1) (λ _. both (number_at 1) (λ _. last_parts)))) (last8 a) (alike8 a)
+
+fields_alike : Alike sample_fields_at fields_parts
+unfolding sample_fields_at
+fields_alike = next_alike make (number_at 4) (λ _. both (number_at 4) (λ _. both (number_at 4) (λ _. both (number_at 1) (λ _. both (number_at 1) (λ _. last_parts))))) last9 alike9
+
+parts_fields_law : Lawful fields_parts sample_header_text FieldsFit
+unfolding sample_header_text
+parts_fields_law = kept_law make fields_of _ _ _
+    (pair_law _ _ _ _ _ _ u32_law (pair_law _ _ _ _ _ _ u32_law (pair_law _ _ _ _ _ _ u32_law (pair_law _ _ _ _ _ _ byte_law (pair_law _ _ _ _ _ _ byte_law
+    (pair_law _ _ _ _ _ _ byte_law (pair_law _ _ _ _ _ _ byte_law (pair_law _ _ _ _ _ _ byte_law (pair_law _ _ _ _ _ _ byte_law (field_law 22))))))))))
+    (λ _ _. refl) (λ _. refl)
 
 fields_law : Lawful sample_fields_at sample_header_text FieldsFit
-unfolding sample_fields_at sample_header_text
-fields_law = kept_law _ (λ h. ((h.length, (h.loop_start, h.loop_len)), ((h.volume, (h.finetune, (h.kind, (h.panning, (h.relative, h.skipped))))), h.name))) _ _ _
-    (pair_law _ _ _ _ _ _ (pair_law _ _ _ _ _ _ u32_law (pair_law _ _ _ _ _ _ u32_law u32_law))
-    (pair_law _ _ _ _ _ _
-    (pair_law _ _ _ _ _ _ byte_law (pair_law _ _ _ _ _ _ byte_law (pair_law _ _ _ _ _ _ byte_law (pair_law _ _ _ _ _ _ byte_law (pair_law _ _ _ _ _ _ byte_law byte_law)))))
-    (field_law 22)))
-    (λ _ _. refl) (λ _. refl)
+fields_law = alike_law sample_fields_at fields_parts sample_header_text FieldsFit fields_alike parts_fields_law
+
+abbrev name_fits : (h : SampleHeader) → FieldsFit h → IsField 22 h.name
+name_fits h f = f.1.1.1.1.1.1.1.1.1
 
 fields_length : (h : SampleHeader) → length h.name ≡ 22 → length (sample_header_text h) ≡ 40
 unfolding sample_header_text
@@ -40,42 +121,42 @@ nothing l [] n e f = refl
 nothing l (x ∷ m) n e f = absurd (omega (arith, length-append l (x ∷ m), e, f))
 
 -- 40 bytes leave no surplus
-whole_law : Lawful (seen (λ (x : SampleHeader × List ℕ). x.0) (within 40 sample_fields_at)) sample_header_text FieldsFit
-whole_law = seen_law (λ (x : SampleHeader × List ℕ). x.0) (λ h. (h, [])) (within 40 sample_fields_at) (within_text sample_header_text) (FitsWithin 40 sample_header_text FieldsFit) sample_header_text FieldsFit
+whole_law : Lawful (seen (λ (x : SampleHeader × List ℕ). x.0) (in_piece 40 sample_fields_at)) sample_header_text FieldsFit
+whole_law = seen_law (λ (x : SampleHeader × List ℕ). x.0) (λ h. (h, [])) (in_piece 40 sample_fields_at) (within_text sample_header_text) (FitsWithin 40 sample_header_text FieldsFit) sample_header_text FieldsFit
     (within_law 40 sample_fields_at sample_header_text FieldsFit fields_law)
-    (λ x f. let none = nothing (sample_header_text x.0) x.1 40 f.whole (fields_length x.0 f.fits.1.1.0) in
+    (λ x f. let none = nothing (sample_header_text x.0) x.1 40 f.whole (fields_length x.0 (name_fits x.0 f.fits).0) in
     (f.fits, ap (λ (l : List ℕ). sample_header_text x.0 ++ l) none ∙ append-nil (sample_header_text x.0)))
     (λ h g. (
-      record { fits = g; whole = ap length (append-nil (sample_header_text h)) ∙ fields_length h g.1.1.0; bytes = λ i. omega arith },
+      record { fits = g; whole = ap length (append-nil (sample_header_text h)) ∙ fields_length h (name_fits h g).0; bytes = λ i. omega arith },
       refl,
       append-nil (sample_header_text h),
     ))
 
 abbrev too_long : SampleHeader → Bool
-too_long header = nat_lt 983040 (frames_of header)
+too_long header = nat_lt 983040 (frame_count header)
 
 header_law : (instrument number : ℕ) → Lawful (sample_header_at instrument number) sample_header_text SampleHeaderFits
 unfolding sample_header_at
 header_law instrument number = refit_law _ sample_header_text (Passes (Passes FieldsFit is_stereo) too_long) SampleHeaderFits
-    (checked_law too_long (λ _ header. TooLong instrument number (frames_of header)) _ sample_header_text (Passes FieldsFit is_stereo)
+    (checked_law too_long (λ _ header. TooLong instrument number (frame_count header)) _ sample_header_text (Passes FieldsFit is_stereo)
     (checked_law is_stereo (λ _ _. Stereo instrument number) _ sample_header_text FieldsFit whole_law))
     (λ x f. let a = f.0.0 in record {
-      length = a.0.0;
-      loop_start = a.0.1.0;
-      loop_len = a.0.1.1;
-      volume = a.1.0.0;
-      finetune = a.1.0.1.0;
-      kind = a.1.0.1.1.0;
-      panning = a.1.0.1.1.1.0;
-      relative = a.1.0.1.1.1.1.0;
-      skipped = a.1.0.1.1.1.1.1;
-      name = a.1.1;
+      length = a.0;
+      loop_start = a.1.0;
+      loop_len = a.1.1.0;
+      volume = a.1.1.1.0;
+      finetune = a.1.1.1.1.0;
+      kind = a.1.1.1.1.1.0;
+      panning = a.1.1.1.1.1.1.0;
+      relative = a.1.1.1.1.1.1.1.0;
+      skipped = a.1.1.1.1.1.1.1.1.0;
+      name = name_fits x a;
       mono = f.0.1;
-      few_frames = fits_limit 983040 (frames_of x) f.1;
+      few_frames = fits_limit 983040 (frame_count x) f.1;
     })
     (λ x g. (
-      (((g.length, (g.loop_start, g.loop_len)), ((g.volume, (g.finetune, (g.kind, (g.panning, (g.relative, g.skipped))))), g.name)), g.mono),
-      not_lt 983040 (frames_of x) g.few_frames,
+      ((g.length, (g.loop_start, (g.loop_len, (g.volume, (g.finetune, (g.kind, (g.panning, (g.relative, (g.skipped, g.name))))))))), g.mono),
+      not_lt 983040 (frame_count x) g.few_frames,
     ))
 
 -- ---- the data
@@ -87,7 +168,7 @@ abbrev steps_of : RawSample → List ℕ
 steps_of raw = raw.steps
 
 abbrev mean_of : RawSample → Sample
-mean_of raw = sample_of raw.header raw.steps
+mean_of raw = sample_from raw.header raw.steps
 
 abbrev StepsFit : RawSample → Type 0
 StepsFit raw = IsField raw.header.length raw.steps
@@ -119,13 +200,13 @@ samples_takes (header ∷ headers) p x bytes e =
     let b = bind_ok (samples_at headers a.0.1) _ x a.2 in
     let r = samples_takes headers a.0.1 b.0 s.bytes b.1 in
     let raw : RawSample = record { header = header; steps = a.0.0 } in
-    let made : List Sample × Place = (sample_of header a.0.0 ∷ b.0.0, b.0.1) in
+    let made : List Sample × Place = (sample_from header a.0.0 ∷ b.0.0, b.0.1) in
     subst (λ (y : List Sample × Place). Reached (flat_map steps_of) (DataFits (header ∷ headers)) (map mean_of) p y) (ok_is made x b.2)
     (record {
       raw = raw ∷ r.raw;
       fits = record { headed = ap (λ (l : List SampleHeader). header ∷ l) r.fits.headed; each = All-cons StepsFit raw r.raw s.fits r.fits.each };
       parts = s.parts ∙ ap (λ (l : List ℕ). a.0.0 ++ l) r.parts ∙ sym (append_assoc a.0.0 (flat_map steps_of r.raw) b.0.1.left);
-      value = ap (λ (l : List Sample). sample_of header a.0.0 ∷ l) r.value;
+      value = ap (λ (l : List Sample). sample_from header a.0.0 ∷ l) r.value;
       bytes = r.bytes;
     })
 
@@ -202,8 +283,11 @@ parts_seen count raws g = (
   refl,
 )
 
-pub samples_of_law : (number count : ℕ) → Spelled (headers_and_samples_at number count) samples_text (AllFit count RawSampleFits) (map mean_of)
+all_alike : (number count : ℕ) → Alike (headers_and_samples_at number count) (seen (λ (x : List SampleHeader × List Sample). x.1) (both (times (sample_header_at number) 0 count) samples_at))
 unfolding headers_and_samples_at
-samples_of_law number count = recast (λ (x : Parts). x.1) (λ raws. (map header_of raws, raws)) _ parts_text (PartsFit count) (λ x. map mean_of x.1) samples_text (AllFit count RawSampleFits) (map mean_of)
+all_alike number count = next_alike (λ (x : List SampleHeader × List Sample). x.1) (times (sample_header_at number) 0 count) samples_at samples_at (λ headers. seen_same (samples_at headers))
+
+pub samples_of_law : (number count : ℕ) → Spelled (headers_and_samples_at number count) samples_text (AllFit count RawSampleFits) (map mean_of)
+samples_of_law number count = alike_spelled (headers_and_samples_at number count) _ samples_text (AllFit count RawSampleFits) (map mean_of) (all_alike number count) (recast (λ (x : Parts). x.1) (λ raws. (map header_of raws, raws)) _ parts_text (PartsFit count) (λ x. map mean_of x.1) samples_text (AllFit count RawSampleFits) (map mean_of)
     (seen_spelled (λ (x : List SampleHeader × List Sample). x.1) (both (times (sample_header_at number) 0 count) samples_at) parts_text (PartsFit count) parts_mean (parts_law number count))
-    (seen_parts count) (parts_seen count)
+    (seen_parts count) (parts_seen count))

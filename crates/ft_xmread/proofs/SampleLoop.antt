@@ -3,10 +3,10 @@ use Rattle.std.proofs.Common.{◌≡◌, ℕ, ◌+◌, ◌≤◌, ◌<◌, List,
 use Rattle.std.proofs.lemmas.List.{append-nil, drop_more, drop_all}
 use Rattle.ft_types.specs.declared.sample.Sample.{Sample}
 use Rattle.ft_format.specs.declared.sample.SampleHeader.{SampleHeader}
-use Rattle.ft_format.specs.Sample.{sample_of}
+use Rattle.ft_format.specs.Sample.{sample_from}
 use Rattle.ft_xmread.specs.declared.fault.XmFault.{XmFault}
 use Rattle.ft_xmread.specs.declared.fault.XmFault.TheVariants as faults
-use Rattle.ft_xmread.specs.Reading.{Place, Fails, field_at}
+use Rattle.ft_xmread.specs.Reader.{Place, Fails, field_at}
 use Rattle.ft_xmread.specs.Instrument.{samples_at}
 use Rattle.ft_xmread.proofs.Loop.{with_front, regroup}
 
@@ -16,11 +16,11 @@ no_header = record { length = 0; loop_start = 0; loop_len = 0; volume = 0; finet
 
 pub samples_go_on : (headers : List SampleHeader) (front : List Sample) (i : ℕ) (p : Place) (steps : List ℕ) (after : Place) (total : Result (List Sample × Place) XmFault) → i < length headers
     → field_at (get_or headers i no_header).length p ≡ Ok (steps, after) → with_front front (samples_at (drop i headers) p) ≡ total
-    → with_front (front ++ sample_of (get_or headers i no_header) steps ∷ []) (samples_at (drop (i + 1) headers) after) ≡ total
+    → with_front (front ++ sample_from (get_or headers i no_header) steps ∷ []) (samples_at (drop (i + 1) headers) after) ≡ total
 unfolding samples_at
 samples_go_on headers front i p steps after total lt h so_far =
-    let step : with_front front (samples_at (drop i headers) p) ≡ with_front (front ++ sample_of (get_or headers i no_header) steps ∷ []) (samples_at (drop (i + 1) headers) after) =
-    rw (drop_more headers i no_header lt, h) (regroup front (sample_of (get_or headers i no_header) steps) (samples_at (drop (i + 1) headers) after)) in
+    let step : with_front front (samples_at (drop i headers) p) ≡ with_front (front ++ sample_from (get_or headers i no_header) steps ∷ []) (samples_at (drop (i + 1) headers) after) =
+    rw (drop_more headers i no_header lt, h) (regroup front (sample_from (get_or headers i no_header) steps) (samples_at (drop (i + 1) headers) after)) in
     sym step ∙ so_far
 
 samples_end : (headers : List SampleHeader) (e : XmFault) (front : List Sample) (i : ℕ) (p : Place) (total : Result (List Sample × Place) XmFault) → i < length headers

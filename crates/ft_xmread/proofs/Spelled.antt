@@ -1,14 +1,14 @@
 -- The two laws of a reading whose values are brought into range: what is spelled so is read, and what
 -- is read is spelled so. A part says a raw value, which has a text and a meaning.
-use Rattle.std.proofs.Common.{◌≡◌, ℕ, zero, suc, ◌+◌, Bool, true, false, cond, List, [], ◌∷◌, ◌++◌, length, map, All, Result, Ok, Err, refl, sym, ap, subst, ◌∙◌, append_assoc, arith}
+use Rattle.std.proofs.Common.{◌≡◌, ℕ, zero, suc, ◌+◌, List, [], ◌∷◌, ◌++◌, length, map, All, Result, Ok, Err, refl, sym, ap, subst, ◌∙◌, append_assoc, arith}
 use Rattle.std.specs.List.{flat_map}
 use Rattle.std.proofs.lemmas.List.{length-append}
 use Rattle.std.proofs.lemmas.List.Elements.{All-head, All-tail, All-nil, All-cons}
 use Rattle.ft_format.specs.Fields.{AreBytes, AllFit, FitsWithin}
 use Rattle.ft_xmread.specs.declared.fault.XmFault.{XmFault}
-use Rattle.ft_xmread.specs.Reading.{Place, Reading, ◌>>=◌, field_at, both, seen, piece_at, within, times}
+use Rattle.ft_xmread.specs.Reader.{Place, Reading, ◌>>=◌, field_at, seen, piece_at, in_piece, times}
 use Rattle.ft_xmread.specs.Pattern.{or_overrun, inside}
-use Rattle.ft_xmread.proofs.Lawful.{Lawful, bind_ok, ok_is, no_text, field_again, field_law}
+use Rattle.ft_xmread.proofs.Lawful.{Lawful, Alike, both, bind_ok, ok_is, no_text, field_again, field_law}
 
 -- the raw value whose text stood at the front of a place
 pub record Reached {R A : Type 0} (text : R → List ℕ) (Fits : R → Type 0) (means : R → A) (p : Place) (x : A × Place) : Type 0 where
@@ -119,7 +119,7 @@ pair_spelled one other t u F G m n law more = both_spelled one (λ _. other) t (
 -- ---- a part of a piece
 
 within_takes : {R A : Type 0} (k : ℕ) (one : Reading A) (t : R → List ℕ) (F : R → Type 0) (m : R → A) → Spelled one t F m
-    → (p : Place) (x : (A × List ℕ) × Place) → AreBytes p.left → within k one p ≡ Ok x
+    → (p : Place) (x : (A × List ℕ) × Place) → AreBytes p.left → in_piece k one p ≡ Ok x
     → Reached (λ (y : R × List ℕ). t y.0 ++ y.1) (FitsWithin k t F) (λ y. (m y.0, y.1)) p x
 unfolding piece_at
 within_takes {R = R} {A = A} k one t F m law p x bytes e =
@@ -142,7 +142,7 @@ within_takes {R = R} {A = A} k one t F m law p x bytes e =
     })
 
 pub within_spelled : {R A : Type 0} (k : ℕ) (one : Reading A) (t : R → List ℕ) (F : R → Type 0) (m : R → A) → Spelled one t F m
-    → Spelled (within k one) (λ (y : R × List ℕ). t y.0 ++ y.1) (FitsWithin k t F) (λ y. (m y.0, y.1))
+    → Spelled (in_piece k one) (λ (y : R × List ℕ). t y.0 ++ y.1) (FitsWithin k t F) (λ y. (m y.0, y.1))
 unfolding piece_at
 within_spelled k one t F m law = record {
   again = λ at y rest fits. rw (field_again at (t y.0 ++ y.1) rest k fits.whole, law.again at y.0 y.1 fits.fits) refl;
@@ -202,4 +202,10 @@ times_spelled {A = A} one t F m law first n = record {
   takes = λ p x bytes e. times_takes one t F m law first n p x bytes e;
 }
 
--- ---- one of two
+-- ---- a part that answers alike
+
+pub alike_spelled : {R A : Type 0} (one other : Reading A) (t : R → List ℕ) (F : R → Type 0) (m : R → A) → Alike one other → Spelled other t F m → Spelled one t F m
+alike_spelled one other t F m same law = record {
+  again = λ at r rest fits. same (record { at = at; left = t r ++ rest }) ∙ law.again at r rest fits;
+  takes = λ p x bytes e. law.takes p x bytes (sym (same p) ∙ e);
+}

@@ -3,50 +3,79 @@ use Rattle.std.specs.Prelude.{◌≡◌, ◌≤◌, ℕ, ◌+◌, ◌-◌, lengt
 use Rattle.ft_format.specs.declared.header.Titles.{Titles}
 use Rattle.ft_format.specs.declared.header.Sizes.{Sizes}
 use Rattle.ft_format.specs.declared.header.Settings.{Settings}
+use Rattle.ft_format.specs.declared.layout.TheConstants.{VERSION as KNOWN, BEFORE_ORDERS, LEAST_HEADER_SIZE}
+use Rattle.ft_format.specs.declared.limits.TheConstants.{MOST_ORDERS, MOST_CHANNELS, MOST_PATTERNS, MOST_INSTRUMENTS}
 use Rattle.ft_format.specs.Header.{RawHeader}
 use Rattle.ft_xmread.specs.declared.fault.XmFault.TheVariants.{Version, Count}
 use Rattle.ft_xmread.specs.declared.header.Header.{Header}
-use Rattle.ft_xmread.specs.Reading.{Reading, field_at, number_at, count_at, both, checked, seen}
+use Rattle.ft_xmread.specs.Reader.{Reading, field_at, number_at, count_at, checked, give}
+use Rattle.ft_xmread.specs.Parts.{◌>>=◌}
 
--- name, the byte behind it, tracker name
 unfoldable pub titles_at : Reading Titles
-titles_at = seen (λ x. record { name = x.0; mark = x.1.0; tracker = x.1.1 })
-    (both (field_at 20) (λ _. both (number_at 1) (λ _. field_at 20)))
+titles_at = do
+  name ← field_at 20
+  mark ← number_at 1
+  tracker ← field_at 20
+  give (record { name = name; mark = mark; tracker = tracker })
 
--- only version 0x0104 is known
+-- only one version is known
 abbrev pub version_at : Reading ℕ
-version_at = checked (λ version. not (version == 0x0104)) (λ _ version. Version version) (number_at 2)
+version_at = checked (λ version. not (version == KNOWN)) (λ _ version. Version version) (number_at 2)
 
 -- the header's size counts from its own field on, and its order table has at least a byte
 abbrev pub size_at : Reading ℕ
-size_at = checked (λ size. nat_lt size 21) Count (number_at 4)
+size_at = checked (λ size. nat_lt size LEAST_HEADER_SIZE) Count (number_at 4)
 
 abbrev pub channels_at : Reading ℕ
-channels_at = checked (λ channels. (channels == 0) || nat_lt 32 channels) Count (number_at 2)
+channels_at =
+    checked (λ channels. (channels == 0) || nat_lt MOST_CHANNELS channels) Count (number_at 2)
 
--- version, size, song length, restart, channels
 unfoldable pub sizes_at : Reading Sizes
-sizes_at = seen (λ x. record { size = x.1.0; length = x.1.1.0; restart = x.1.1.1.0; channels = x.1.1.1.1 })
-    (both version_at (λ _. both size_at (λ _. both (count_at 256) (λ _. both (number_at 2) (λ _. channels_at)))))
+sizes_at = do
+  _ ← version_at
+  size ← size_at
+  length ← count_at MOST_ORDERS
+  restart ← number_at 2
+  channels ← channels_at
+  give (record { size = size; length = length; restart = restart; channels = channels })
 
--- patterns, instruments, flags, tempo, BPM
 unfoldable pub settings_at : Reading Settings
-settings_at = seen (λ x. record { patterns = x.0; instruments = x.1.0; flags = x.1.1.0; tempo = x.1.1.1.0; bpm = x.1.1.1.1 })
-    (both (count_at 256) (λ _. both (count_at 128) (λ _. both (number_at 2) (λ _. both (number_at 2) (λ _. number_at 2)))))
+settings_at = do
+  patterns ← count_at MOST_PATTERNS
+  instruments ← count_at MOST_INSTRUMENTS
+  flags ← number_at 2
+  tempo ← number_at 2
+  bpm ← number_at 2
+  give (record {
+    patterns = patterns;
+    instruments = instruments;
+    flags = flags;
+    tempo = tempo;
+    bpm = bpm;
+  })
 
 -- the order table is one field
 unfoldable pub header_at : Reading RawHeader
-header_at = seen (λ x. record { titles = x.0; sizes = x.1.0; settings = x.1.1.0; orders = x.1.1.1 })
-    (both titles_at (λ _. both sizes_at (λ sizes. both settings_at (λ _. field_at (sizes.size - 20)))))
+header_at = do
+  titles ← titles_at
+  sizes ← sizes_at
+  settings ← settings_at
+  orders ← field_at (sizes.size - BEFORE_ORDERS)
+  give (record { titles = titles; sizes = sizes; settings = settings; orders = orders })
 
 -- ---- the header that the reader holds
 
 abbrev pub raw_of : Header → RawHeader
-raw_of header = record { titles = header.titles; sizes = header.sizes; settings = header.settings; orders = header.orders.now }
+raw_of header = record {
+  titles = header.titles;
+  sizes = header.sizes;
+  settings = header.settings;
+  orders = header.orders.now;
+}
 
 -- what reading a header makes sure of
 pub record HasRanges (header : Header) : Type 0 where
-  pub table : length header.orders.now + 20 ≡ header.sizes.size
-  pub orders : header.sizes.length ≤ 256
-  pub channels : header.sizes.channels ≤ 32
-  pub instruments : header.settings.instruments ≤ 128
+  pub table : length header.orders.now + BEFORE_ORDERS ≡ header.sizes.size
+  pub orders : header.sizes.length ≤ MOST_ORDERS
+  pub channels : header.sizes.channels ≤ MOST_CHANNELS
+  pub instruments : header.settings.instruments ≤ MOST_INSTRUMENTS

@@ -1,9 +1,10 @@
-pub mod Reading
+pub mod Reader
+pub mod Parts
 pub mod Identification
 pub mod Header
 pub mod Pattern
 pub mod Sample
 pub mod Instrument
-pub mod Whole
+pub mod File
 pub mod Song
 pub mod Laws

@@ -4,7 +4,7 @@ use Rattle.ft_types.specs.declared.module.Module.{Module}
 use Rattle.ft_xmread.specs.declared.fault.XmFault.{XmFault}
 use Rattle.ft_xmread.specs.declared.fault.XmFault.TheVariants as faults
 use Rattle.ft_xmread.specs.Identification.{stands}
-use Rattle.ft_xmread.specs.Whole.{song_in}
+use Rattle.ft_xmread.specs.File.{song_in}
 
 -- the identification's bytes are there, and this is the first that differs
 pub record IsFirstWrong (file : List ℕ) (at : ℕ) : Type 0 where
@@ -22,11 +22,11 @@ abbrev pub IsFaultOf : List ℕ → XmFault → Type 0
 IsFaultOf file fault = (fault ≡ faults.NoMemory) ⊎ HasFault file fault
 
 -- this song, unless memory is wanting
-abbrev pub Reads : Result Module XmFault → Module → Type 0
-Reads (Ok read) song = read ≡ song
-Reads (Err fault) song = fault ≡ faults.NoMemory
+abbrev pub IsThisSong : Result Module XmFault → Module → Type 0
+IsThisSong (Ok read) song = read ≡ song
+IsThisSong (Err fault) song = fault ≡ faults.NoMemory
 
 -- this fault, unless memory is wanting
-abbrev pub Refuses : Result Module XmFault → XmFault → Type 0
-Refuses (Ok song) fault = ⊥
-Refuses (Err answer) fault = (answer ≡ fault) ⊎ (answer ≡ faults.NoMemory)
+abbrev pub IsRefusedBy : Result Module XmFault → XmFault → Type 0
+IsRefusedBy (Ok song) fault = ⊥
+IsRefusedBy (Err answer) fault = (answer ≡ fault) ⊎ (answer ≡ faults.NoMemory)

@@ -3,17 +3,18 @@
 
 ghost use Rattle.std.specs.Prelude.{◌≡◌, map, min};
 ghost use Rattle.ft_format.specs.Instrument.{point_of, envelope_of, vibrato_of, instrument_with};
-ghost use Rattle.ft_xmread.specs.Reading.{Reads};
-ghost use Rattle.ft_xmread.specs.Instrument.{point_at, points_at, two_at, turns_at, vibrato_at, raw_envelope, extra_at};
+ghost use Rattle.ft_xmread.specs.Reader.{Reads};
+ghost use Rattle.ft_xmread.specs.Instrument.{point_at, points_at, pair_at, turns_at, vibrato_at, shapes_at, shaped, envelopes_at, extra_at};
 
 use crate::fault::XmFault;
 use crate::reader::Reader;
-use ft_format::{Extra, InstrumentHead, Turns};
+use ft_format::{Envelopes, Extra, InstrumentHead, Pair, Shapes, Turns};
 use ft_types::{Envelope, Instrument, Point, Sample, Samples, Vibrato};
 
 /// The highest value of an envelope.
 const MOST_VALUE: u16 = 64;
 
+/// The most points that count.
 const MOST_POINTS: u8 = 12;
 
 const LAST_POINT: u8 = 11;
@@ -41,14 +42,14 @@ fn read_points(reader: &mut Reader) -> Result<[Point; 12], XmFault>
     Ok(points)
 }
 
-/// A byte of the volume envelope, and the same of the panning envelope.
-#[tactic(auto, unfolding(crate::specs::Instrument::two_at))]
-fn read_two(reader: &mut Reader) -> Result<(u8, u8), XmFault>
-    ensures { Reads (λ x. x) result reader.new (two_at reader.old) }
+/// The same byte of both envelopes.
+#[tactic(auto, unfolding(crate::specs::Instrument::pair_at))]
+fn read_pair(reader: &mut Reader) -> Result<Pair, XmFault>
+    ensures { Reads (λ x. x) result reader.new (pair_at reader.old) }
 {
     let volume = reader.byte()?;
     let panning = reader.byte()?;
-    Ok((volume, panning))
+    Ok(Pair { volume, panning })
 }
 
 #[tactic(auto, unfolding(crate::specs::Instrument::turns_at))]
@@ -81,8 +82,26 @@ fn read_vibrato(reader: &mut Reader) -> Result<Vibrato, XmFault>
     })
 }
 
-fn raw_envelope(points: [Point; 12], count: u8, turns: Turns, flags: u8) -> Envelope
-    ensures { result ≡ raw_envelope points count turns flags }
+/// What two envelopes say behind their points.
+#[tactic(auto, unfolding(crate::specs::Instrument::shapes_at))]
+fn read_shapes(reader: &mut Reader) -> Result<Shapes, XmFault>
+    ensures { Reads (λ x. x) result reader.new (shapes_at reader.old) }
+{
+    let counts = read_pair(reader)?;
+    let volume = read_turns(reader)?;
+    let panning = read_turns(reader)?;
+    let flags = read_pair(reader)?;
+    Ok(Shapes {
+        counts,
+        volume,
+        panning,
+        flags,
+    })
+}
+
+/// An envelope of these points.
+fn shaped(points: [Point; 12], count: u8, turns: Turns, flags: u8) -> Envelope
+    ensures { result ≡ shaped points count turns flags }
 {
     Envelope {
         points,
@@ -94,25 +113,34 @@ fn raw_envelope(points: [Point; 12], count: u8, turns: Turns, flags: u8) -> Enve
     }
 }
 
+/// Both envelopes: the points of both, and then the rest of both.
+#[tactic(auto, unfolding(crate::specs::Instrument::envelopes_at))]
+fn read_envelopes(reader: &mut Reader) -> Result<Envelopes, XmFault>
+    ensures { Reads (λ x. x) result reader.new (envelopes_at reader.old) }
+{
+    let volume = read_points(reader)?;
+    let panning = read_points(reader)?;
+    let shapes = read_shapes(reader)?;
+    let (counts, flags) = (shapes.counts, shapes.flags);
+    Ok(Envelopes {
+        volume: shaped(volume, counts.volume, shapes.volume, flags.volume),
+        panning: shaped(panning, counts.panning, shapes.panning, flags.panning),
+    })
+}
+
 #[tactic(auto, unfolding(crate::specs::Instrument::extra_at))]
 pub fn read_extra(reader: &mut Reader) -> Result<Extra, XmFault>
     ensures { Reads (λ x. x) result reader.new (extra_at reader.old) }
 {
     let header_size = reader.u32()?;
     let map = reader.array()?;
-    let volume_points = read_points(reader)?;
-    let panning_points = read_points(reader)?;
-    let counts = read_two(reader)?;
-    let volume_turns = read_turns(reader)?;
-    let panning_turns = read_turns(reader)?;
-    let flags = read_two(reader)?;
+    let envelopes = read_envelopes(reader)?;
     let vibrato = read_vibrato(reader)?;
     let fadeout = reader.u16()?;
     Ok(Extra {
         header_size,
         map,
-        volume: raw_envelope(volume_points, counts.0, volume_turns, flags.0),
-        panning: raw_envelope(panning_points, counts.1, panning_turns, flags.1),
+        envelopes,
         vibrato,
         fadeout,
     })
@@ -185,7 +213,8 @@ pub fn instrument_with(head: InstrumentHead, extra: Extra, samples: Vec<Sample>)
     ensures { result ≡ instrument_with head extra samples.items }
 {
     let (name, map) = (head.name, map_of(extra.map));
-    let (volume, panning) = (envelope_of(extra.volume), envelope_of(extra.panning));
+    let Envelopes { volume, panning } = extra.envelopes;
+    let (volume, panning) = (envelope_of(volume), envelope_of(panning));
     Instrument {
         name,
         map,

@@ -4,62 +4,67 @@ ghost use Rattle.std.specs.Prelude.{◌≡◌};
 ghost use Rattle.ft_xmread.specs.declared.fault.XmFault.TheVariants.{NoMemory as no_memory};
 
 use std::alloc::{AllocError, AllocFailed};
-use thiserror::Error;
 
 /// What is wrong with the bytes: the first fault from left to right.
 ///
 /// Places are offsets in the file. Patterns and samples count from 0, instruments from 1.
-#[derive(Clone, Copy, Debug, PartialEq, Eq, Error)]
+#[derive(Clone, Copy, Debug, PartialEq, Eq)]
 pub enum XmFault {
     /// This byte of the identification differs.
-    #[error("not an Extended Module: byte {at} of the identification differs")]
     NotXm {
+        /// Its place, 0 to 16.
         at: u64,
     },
     /// The version isn't 0x0104.
-    #[error("version {found} is unknown")]
     Version {
+        /// What stands there.
         found: u16,
     },
     /// A field of `need` bytes would begin here, and the file ends before its end.
-    #[error("the file ends within the {need} bytes at {at}")]
     Short {
+        /// Where the field would begin.
         at: u64,
+        /// Its bytes.
         need: u32,
     },
     /// The number at this place is out of its range.
-    #[error("{found} at {at} is out of range")]
     Count {
+        /// Where the number begins.
         at: u64,
+        /// The number.
         found: u32,
     },
     /// This pattern isn't packed in the one known way.
-    #[error("packing {found} of pattern {pattern} is unknown")]
     Packing {
+        /// The pattern, from 0.
         pattern: u16,
+        /// Its packing.
         found: u8,
     },
     /// The cell that begins here goes past the data of its pattern.
-    #[error("the cell at {at} goes past the end of pattern {pattern}")]
     CellOverrun {
+        /// The pattern, from 0.
         pattern: u16,
+        /// Where the cell begins.
         at: u64,
     },
     /// This sample has two channels.
-    #[error("sample {sample} of instrument {instrument} is stereo")]
     Stereo {
+        /// The instrument, from 1.
         instrument: u16,
+        /// Its sample, from 0.
         sample: u16,
     },
-    /// This sample has more than 983,040 frames.
-    #[error("sample {sample} of instrument {instrument} has {frames} frames")]
+    /// This sample has more frames than `MOST_FRAMES` of ft_format.
     TooLong {
+        /// The instrument, from 1.
         instrument: u16,
+        /// Its sample, from 0.
         sample: u16,
+        /// Its frames.
         frames: u32,
     },
     /// Memory is wanting. No clause says when this comes.
-    #[error("out of memory")]
     NoMemory,
 }
 

@@ -1,36 +1,30 @@
 //! The header, from byte 17 of a file to the end of the order table.
 
 ghost use Rattle.std.specs.Prelude.{◌≡◌, ◌<◌, ◌≤◌, IfOk, IfErr};
-ghost use Rattle.ft_format.specs.Header.{length_of, restart_of, orders_of, song_of};
-ghost use Rattle.ft_xmread.specs.Reading.{Reads as ReadsAt};
-ghost use Rattle.ft_xmread.specs.Song.{Reads};
-ghost use Rattle.ft_xmread.specs.Header.{raw_of, titles_at, sizes_at, settings_at, header_at, HasRanges};
+ghost use Rattle.ft_format.specs.declared.layout.TheConstants.{BEFORE_ORDERS};
+ghost use Rattle.ft_format.specs.declared.limits.TheConstants.{MOST_ORDERS, MOST_CHANNELS, MOST_INSTRUMENTS};
+ghost use Rattle.ft_format.specs.Header.{length_of, restart_of, orders_of, song_from};
+ghost use Rattle.ft_xmread.specs.Reader.{Reads};
+ghost use Rattle.ft_xmread.specs.Song.{IsThisSong};
+ghost use Rattle.ft_xmread.specs.Header.{raw_of, titles_at, size_at, channels_at, sizes_at, settings_at, header_at, HasRanges};
 
 use crate::fault::XmFault;
 use crate::reader::Reader;
-use ft_format::{Settings, Sizes, Titles};
+use ft_format::{
+    BEFORE_ORDERS, LEAST_HEADER_SIZE, MOST_CHANNELS, MOST_INSTRUMENTS, MOST_ORDERS, MOST_PATTERNS,
+    Settings, Sizes, Titles, VERSION,
+};
 use ft_types::{Instrument, Instruments, Module, Orders, Pattern, Patterns};
 use std::alloc::Global;
 
-/// The one version that is read.
-const VERSION: u16 = 0x0104;
-
-/// The bytes of a header from its size on that come before the order table.
-const BEFORE_ORDERS: u32 = 20;
-
-const MOST_ORDERS: u16 = 256;
-
-const MOST_CHANNELS: u16 = 32;
-
-const MOST_PATTERNS: u16 = 256;
-
-const MOST_INSTRUMENTS: u16 = 128;
-
 /// The whole header, as the file spells it.
-#[derive(Clone, Copy, Debug)]
+#[derive(Clone, Copy)]
 pub struct Header<'a> {
+    /// The names.
     pub titles: Titles,
+    /// Its size, the song length, the restart and the channels.
     pub sizes: Sizes,
+    /// How many patterns and instruments there are, the flags, the tempo and the BPM.
     pub settings: Settings,
     /// The order table, of any length.
     pub orders: &'a [u8],
@@ -38,7 +32,7 @@ pub struct Header<'a> {
 
 #[tactic(auto, unfolding(crate::specs::Header::titles_at))]
 fn read_titles(reader: &mut Reader) -> Result<Titles, XmFault>
-    ensures { ReadsAt (λ x. x) result reader.new (titles_at reader.old) }
+    ensures { Reads (λ x. x) result reader.new (titles_at reader.old) }
 {
     let name = reader.array()?;
     let mark = reader.byte()?;
@@ -50,24 +44,24 @@ fn read_titles(reader: &mut Reader) -> Result<Titles, XmFault>
     })
 }
 
-#[tactic(auto, unfolding(crate::specs::Header::sizes_at))]
-fn read_sizes(reader: &mut Reader) -> Result<Sizes, XmFault>
-    ensures value { ReadsAt (λ x. x) result reader.new (sizes_at reader.old) }
-    ensures size { IfOk result (λ sizes. 20 < sizes.size) }
-    ensures length { IfOk result (λ sizes. sizes.length ≤ 256) }
-    ensures channels { IfOk result (λ sizes. sizes.channels ≤ 32) }
+/// The header's size, which leaves room for an order.
+fn read_size(reader: &mut Reader) -> Result<u32, XmFault>
+    ensures value { Reads (λ x. x) result reader.new (size_at reader.old) }
+    ensures some { IfOk result (λ size. BEFORE_ORDERS < size) }
 {
-    let version = reader.u16()?;
-    if version != VERSION {
-        return Err(XmFault::Version { found: version });
-    }
     let at = reader.place();
     let size = reader.u32()?;
-    if size <= BEFORE_ORDERS {
+    if size < LEAST_HEADER_SIZE {
         return Err(XmFault::Count { at, found: size });
     }
-    let length = reader.count(MOST_ORDERS)?;
-    let restart = reader.u16()?;
+    Ok(size)
+}
+
+/// The number of channels, 1 to 32.
+fn read_channels(reader: &mut Reader) -> Result<u16, XmFault>
+    ensures value { Reads (λ x. x) result reader.new (channels_at reader.old) }
+    ensures few { IfOk result (λ channels. channels ≤ MOST_CHANNELS) }
+{
     let at = reader.place();
     let channels = reader.u16()?;
     if channels == 0 || channels > MOST_CHANNELS {
@@ -76,6 +70,24 @@ fn read_sizes(reader: &mut Reader) -> Result<Sizes, XmFault>
             found: u32::from(channels),
         });
     }
+    Ok(channels)
+}
+
+#[tactic(auto, unfolding(crate::specs::Header::sizes_at))]
+fn read_sizes(reader: &mut Reader) -> Result<Sizes, XmFault>
+    ensures value { Reads (λ x. x) result reader.new (sizes_at reader.old) }
+    ensures size { IfOk result (λ sizes. BEFORE_ORDERS < sizes.size) }
+    ensures length { IfOk result (λ sizes. sizes.length ≤ MOST_ORDERS) }
+    ensures channels { IfOk result (λ sizes. sizes.channels ≤ MOST_CHANNELS) }
+{
+    let version = reader.u16()?;
+    if version != VERSION {
+        return Err(XmFault::Version { found: version });
+    }
+    let size = read_size(reader)?;
+    let length = reader.count(MOST_ORDERS)?;
+    let restart = reader.u16()?;
+    let channels = read_channels(reader)?;
     Ok(Sizes {
         size,
         length,
@@ -86,8 +98,8 @@ fn read_sizes(reader: &mut Reader) -> Result<Sizes, XmFault>
 
 #[tactic(auto, unfolding(crate::specs::Header::settings_at))]
 fn read_settings(reader: &mut Reader) -> Result<Settings, XmFault>
-    ensures value { ReadsAt (λ x. x) result reader.new (settings_at reader.old) }
-    ensures instruments { IfOk result (λ settings. settings.instruments ≤ 128) }
+    ensures value { Reads (λ x. x) result reader.new (settings_at reader.old) }
+    ensures instruments { IfOk result (λ settings. settings.instruments ≤ MOST_INSTRUMENTS) }
 {
     let patterns = reader.count(MOST_PATTERNS)?;
     let instruments = reader.count(MOST_INSTRUMENTS)?;
@@ -106,7 +118,7 @@ fn read_settings(reader: &mut Reader) -> Result<Settings, XmFault>
 /// The header behind the identification.
 #[tactic(auto, unfolding(crate::specs::Header::header_at))]
 pub fn read_header<'a>(reader: &mut Reader<'a>) -> Result<Header<'a>, XmFault>
-    ensures value { ReadsAt raw_of result reader.new (header_at reader.old) }
+    ensures value { Reads raw_of result reader.new (header_at reader.old) }
     ensures ranges { IfOk result HasRanges }
 {
     let titles = read_titles(reader)?;
@@ -143,7 +155,8 @@ impl<'a> Header<'a> {
     /// The orders; those that the table doesn't hold are 0.
     fn orders(&self, alloc: Global) -> Result<Vec<u8>, XmFault>
         requires { HasRanges self.now }
-        ensures value { IfOk result (λ orders. orders.items ≡ orders_of (length_of self.now.sizes) self.now.orders.now) }
+        ensures value { IfOk result (λ orders. orders.items
+            ≡ orders_of (length_of self.now.sizes) self.now.orders.now) }
         ensures wanting { IfErr result (λ fault. fault ≡ XmFault.NoMemory) }
     {
         let count = usize::from(self.length());
@@ -155,7 +168,7 @@ impl<'a> Header<'a> {
     }
 
     /// The module of this header, its numbers brought into range.
-    #[tactic(auto, unfolding(ft_format::specs::Header::song_of))]
+    #[tactic(auto, unfolding(ft_format::specs::Header::song_from))]
     pub fn song(
         &self,
         alloc: Global,
@@ -163,7 +176,8 @@ impl<'a> Header<'a> {
         instruments: Vec<Instrument>,
     ) -> Result<Module, XmFault>
         requires { HasRanges self.now }
-        ensures { Reads result (song_of (raw_of self.now) patterns.items instruments.items) }
+        ensures { IsThisSong result
+            (song_from (raw_of self.now) patterns.items instruments.items) }
     {
         let orders = self.orders(alloc)?;
         Ok(Module {

@@ -1,16 +1,12 @@
 //! The identification, bytes 0 to 16 of a file.
 
 ghost use Rattle.std.specs.Prelude.{◌≡◌, ◌≢◌, ◌<◌, length, IfSome, Err};
-ghost use Rattle.ft_xmread.specs.Reading.{Reads};
+ghost use Rattle.ft_xmread.specs.Reader.{Reads};
 ghost use Rattle.ft_xmread.specs.Identification.{stands, wrong_from, identification_at};
 
 use crate::fault::XmFault;
 use crate::reader::Reader;
-
-const IDENTIFICATION: [u8; 17] = *b"Extended Module: ";
-
-/// The offset of the one letter that may be small.
-const LETTER: usize = 9;
+use ft_format::{IDENTIFICATION, LETTER, SMALL};
 
 /// Whether the byte at `k` is the identification's; its M may be small.
 fn stands_at(piece: &[u8], k: usize) -> bool
@@ -18,7 +14,7 @@ fn stands_at(piece: &[u8], k: usize) -> bool
     requires within { k < 17 }
     ensures { result ≡ stands piece.now k }
 {
-    piece[k] == IDENTIFICATION[k] || (k == LETTER && piece[k] == b'm')
+    piece[k] == IDENTIFICATION[k] || (k == LETTER && piece[k] == SMALL)
 }
 
 /// The first byte that differs.

@@ -1,54 +1,26 @@
 //! Instruments.
 
 ghost use Rattle.std.specs.Prelude.{◌≤◌, ◌+◌, IfOk};
-ghost use Rattle.ft_xmread.specs.Reading.{Reads, seen, within, times};
+ghost use Rattle.ft_format.specs.declared.layout.TheConstants.{SHORT_HEAD};
+ghost use Rattle.ft_format.specs.declared.limits.TheConstants.{MOST_INSTRUMENTS};
+ghost use Rattle.ft_xmread.specs.Reader.{Reads, seen, in_piece, times};
 ghost use Rattle.ft_xmread.specs.Sample.{sample_header_at};
-ghost use Rattle.ft_xmread.specs.Instrument.{head_at, sized_head_at, extra_at, samples_at, headers_and_samples_at, rest_at, instrument_at};
+ghost use Rattle.ft_xmread.specs.Instrument.{head_at, sized_head_at, extra_at, samples_at, headers_and_samples_at, rest_at, instrument_spelled_at};
 
 use crate::envelopes::{instrument_with, read_extra};
 use crate::fault::XmFault;
 use crate::reader::Reader;
 use crate::sample::{read_sample_header, sample_from};
-use ft_format::{Extra, InstrumentHead, SampleHeader};
-use ft_types::{Envelope, Instrument, Point, Sample, Vibrato};
+use ft_format::{
+    Extra, InstrumentHead, LEAST_LONG_HEAD, MOST_SAMPLES, NO_EXTRA, SHORT_HEAD, SampleHeader,
+};
+use ft_types::{Instrument, Sample};
 use std::alloc::Global;
-
-/// The bytes of a head that each instrument has.
-const SHORT_HEAD: u32 = 29;
-
-/// The bytes of a head that an instrument with samples has at least.
-const LONG_HEAD: u32 = 241;
-
-const MOST_SAMPLES: u16 = 16;
-
-const NO_ENVELOPE: Envelope = Envelope {
-    points: [Point { x: 0, y: 0 }; 12],
-    count: 0,
-    sustain: 0,
-    loop_start: 0,
-    loop_end: 0,
-    flags: 0,
-};
-
-/// What an instrument without samples says behind its name.
-const NO_EXTRA: Extra = Extra {
-    header_size: 0,
-    map: [0; 96],
-    volume: NO_ENVELOPE,
-    panning: NO_ENVELOPE,
-    vibrato: Vibrato {
-        kind: 0,
-        sweep: 0,
-        depth: 0,
-        rate: 0,
-    },
-    fadeout: 0,
-};
 
 #[tactic(auto, unfolding(crate::specs::Instrument::head_at))]
 fn read_head(reader: &mut Reader) -> Result<InstrumentHead, XmFault>
     ensures value { Reads (λ x. x) result reader.new (head_at reader.old) }
-    ensures size { IfOk result (λ head. 29 ≤ head.size) }
+    ensures size { IfOk result (λ head. SHORT_HEAD ≤ head.size) }
 {
     let at = reader.place();
     let size = reader.u32()?;
@@ -70,11 +42,11 @@ fn read_head(reader: &mut Reader) -> Result<InstrumentHead, XmFault>
 #[tactic(auto, unfolding(crate::specs::Instrument::sized_head_at))]
 fn read_sized_head(reader: &mut Reader) -> Result<InstrumentHead, XmFault>
     ensures value { Reads (λ x. x) result reader.new (sized_head_at reader.old) }
-    ensures size { IfOk result (λ head. 29 ≤ head.size) }
+    ensures size { IfOk result (λ head. SHORT_HEAD ≤ head.size) }
 {
     let at = reader.place();
     let head = read_head(reader)?;
-    if head.samples != 0 && head.size < LONG_HEAD {
+    if head.samples != 0 && head.size < LEAST_LONG_HEAD {
         return Err(XmFault::Count {
             at,
             found: head.size,
@@ -86,7 +58,8 @@ fn read_sized_head(reader: &mut Reader) -> Result<InstrumentHead, XmFault>
 /// What stands in the head of an instrument with samples behind its first bytes. Bytes that are left
 /// are skipped.
 fn read_long_head(reader: &mut Reader, need: u32) -> Result<Extra, XmFault>
-    ensures { Reads (λ x. x) result reader.new (seen (λ x. x.0) (within need extra_at) reader.old) }
+    ensures { Reads (λ x. x) result reader.new
+        (seen (λ x. x.0) (in_piece need extra_at) reader.old) }
 {
     let mut piece = reader.piece(need)?;
     read_extra(&mut piece)
@@ -99,7 +72,8 @@ fn read_headers(
     instrument: u16,
     count: u16,
 ) -> Result<Vec<SampleHeader>, XmFault>
-    ensures { Reads (λ headers. headers.items) result reader.new (times (sample_header_at instrument) 0 count reader.old) }
+    ensures { Reads (λ headers. headers.items) result reader.new
+        (times (sample_header_at instrument) 0 count reader.old) }
 {
     let mut headers = Vec::with_capacity(alloc, usize::from(count))?;
     for number in 0..count {
@@ -115,7 +89,8 @@ fn read_samples(
     reader: &mut Reader,
     headers: &[SampleHeader],
 ) -> Result<Vec<Sample>, XmFault>
-    ensures { Reads (λ samples. samples.items) result reader.new (samples_at headers.now reader.old) }
+    ensures { Reads (λ samples. samples.items) result reader.new
+        (samples_at headers.now reader.old) }
 {
     let mut samples = Vec::with_capacity(alloc, headers.len())?;
     for header in headers {
@@ -134,7 +109,8 @@ fn read_headers_and_samples(
     instrument: u16,
     count: u16,
 ) -> Result<Vec<Sample>, XmFault>
-    ensures { Reads (λ samples. samples.items) result reader.new (headers_and_samples_at instrument count reader.old) }
+    ensures { Reads (λ samples. samples.items) result reader.new
+        (headers_and_samples_at instrument count reader.old) }
 {
     let headers = read_headers(alloc, reader, instrument, count)?;
     read_samples(alloc, reader, &headers)
@@ -147,7 +123,7 @@ fn read_rest(
     number: u16,
     head: InstrumentHead,
 ) -> Result<Instrument, XmFault>
-    requires { 29 ≤ head.size }
+    requires { SHORT_HEAD ≤ head.size }
     ensures { Reads (λ x. x) result reader.new (rest_at number head reader.old) }
 {
     if head.samples == 0 {
@@ -160,13 +136,13 @@ fn read_rest(
 }
 
 /// An instrument; its faults name it by this number.
-#[tactic(auto, unfolding(crate::specs::Instrument::instrument_at))]
+#[tactic(auto, unfolding(crate::specs::Instrument::instrument_spelled_at))]
 pub fn read_instrument(
     alloc: Global,
     reader: &mut Reader,
     number: u16,
 ) -> Result<Instrument, XmFault>
-    ensures { Reads (λ x. x) result reader.new (instrument_at number reader.old) }
+    ensures { Reads (λ x. x) result reader.new (instrument_spelled_at number reader.old) }
 {
     let head = read_sized_head(reader)?;
     read_rest(alloc, reader, number, head)
@@ -178,8 +154,9 @@ pub fn read_instruments(
     reader: &mut Reader,
     count: u16,
 ) -> Result<Vec<Instrument>, XmFault>
-    requires { count ≤ 128 }
-    ensures { Reads (λ instruments. instruments.items) result reader.new (times (λ k. instrument_at (k + 1)) 0 count reader.old) }
+    requires { count ≤ MOST_INSTRUMENTS }
+    ensures { Reads (λ instruments. instruments.items) result reader.new
+        (times (λ k. instrument_spelled_at (k + 1)) 0 count reader.old) }
 {
     let mut instruments = Vec::with_capacity(alloc, usize::from(count))?;
     for k in 0..count {

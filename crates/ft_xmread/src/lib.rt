@@ -9,18 +9,15 @@ mod cell;
 mod deltas;
 mod envelopes;
 mod fault;
+mod file;
 mod header;
 mod identification;
 mod instrument;
 mod laws;
 mod pattern;
 mod reader;
-mod reading;
 mod sample;
 
 pub use fault::XmFault;
-pub use laws::one_answer_law;
-pub use reading::read_xm;
-
-#[cfg(test)]
-mod tests;
+pub use file::read_xm;
+pub use laws::{memory_is_no_fault, one_answer_law};

@@ -1,7 +1,7 @@
 //! The cursor by which a file is read.
 
 ghost use Rattle.std.specs.Prelude.{◌≡◌, ◌≢◌, ◌+◌, ◌<◌, ◌≤◌, ◌^◌, length, IfOk, Err};
-ghost use Rattle.ft_xmread.specs.Reading.{Place, Reads, field_at, number_at, count_at, piece_at};
+ghost use Rattle.ft_xmread.specs.Reader.{Place, Reads, field_at, number_at, count_at, piece_at};
 
 use crate::fault::XmFault;
 use byteorder::{ByteOrder, LittleEndian};
@@ -16,7 +16,7 @@ pub struct Reader<'a> {
 
 impl<'a> Model for Reader<'a> {
     ghost use Rattle.std.specs.Prelude.{◌+◌, ◌<◌, ◌^◌, length};
-    ghost use Rattle.ft_xmread.specs.Reading.{Place};
+    ghost use Rattle.ft_xmread.specs.Reader.{Place};
 
     ghost Value = { Place };
 
@@ -56,7 +56,7 @@ impl<'a> Reader<'a> {
     }
 
     /// The next `need` bytes; `Short` where fewer are left.
-    #[tactic(auto, unfolding(crate::specs::Reading::field_at))]
+    #[tactic(auto, unfolding(crate::specs::Reader::field_at))]
     pub fn field(&mut self, need: u32) -> Result<&'a [u8], XmFault>
         ensures value { Reads (λ x. x.now) result self.new (field_at need self.old) }
         ensures len { IfOk result (λ x. length x.now ≡ need) }
@@ -72,7 +72,7 @@ impl<'a> Reader<'a> {
     }
 
     /// A reader of the next `need` bytes alone; `Short` where fewer are left.
-    #[tactic(auto, unfolding(crate::specs::Reading::piece_at, crate::specs::Reading::field_at))]
+    #[tactic(auto, unfolding(crate::specs::Reader::piece_at, crate::specs::Reader::field_at))]
     pub fn piece(&mut self, need: u32) -> Result<Reader<'a>, XmFault>
         ensures { Reads (λ x. x) result self.new (piece_at need self.old) }
     {
@@ -93,7 +93,7 @@ impl<'a> Reader<'a> {
     }
 
     /// The next byte.
-    #[tactic(auto, unfolding(crate::specs::Reading::number_at))]
+    #[tactic(auto, unfolding(crate::specs::Reader::number_at))]
     pub fn byte(&mut self) -> Result<u8, XmFault>
         ensures { Reads (λ x. x) result self.new (number_at 1 self.old) }
     {
@@ -102,7 +102,7 @@ impl<'a> Reader<'a> {
     }
 
     /// The next number of two bytes, the low one first.
-    #[tactic(auto, unfolding(crate::specs::Reading::number_at))]
+    #[tactic(auto, unfolding(crate::specs::Reader::number_at))]
     pub fn u16(&mut self) -> Result<u16, XmFault>
         ensures { Reads (λ x. x) result self.new (number_at 2 self.old) }
     {
@@ -111,7 +111,7 @@ impl<'a> Reader<'a> {
     }
 
     /// The next number of four bytes, the low one first.
-    #[tactic(auto, unfolding(crate::specs::Reading::number_at))]
+    #[tactic(auto, unfolding(crate::specs::Reader::number_at))]
     pub fn u32(&mut self) -> Result<u32, XmFault>
         ensures { Reads (λ x. x) result self.new (number_at 4 self.old) }
     {

@@ -1,21 +1,16 @@
 //! Samples: their headers, and the values that they give.
 
 ghost use Rattle.std.specs.Prelude.{◌≡◌, IfOk, IfErr, if◌then◌else◌};
-ghost use Rattle.ft_format.specs.Sample.{is_stereo, is_wide, in_frames, frames_of, loop_kind_of, loop_start_of, loop_len_of, is_unlooped, narrow_frames, wide_frames, sample_of};
-ghost use Rattle.ft_xmread.specs.Reading.{Reads};
-ghost use Rattle.ft_xmread.specs.Sample.{sample_fields_at, sample_header_at};
+ghost use Rattle.ft_format.specs.Sample.{is_stereo, is_wide, in_frames, frame_count, loop_kind_of, loop_start_of, loop_len_of, is_unlooped, narrow_frames, wide_frames, sample_from};
+ghost use Rattle.ft_xmread.specs.Reader.{Reads};
+ghost use Rattle.ft_xmread.specs.Sample.{sample_fields_at, whole_header_at, sample_header_at};
 
 use crate::deltas::{narrow_frames, wide_frames};
 use crate::fault::XmFault;
 use crate::reader::Reader;
-use ft_format::SampleHeader;
+use ft_format::{MOST_FRAMES, SAMPLE_HEADER, SampleHeader};
 use ft_types::{Frames, Sample};
 use std::alloc::Global;
-
-/// The bytes of a sample header.
-const HEADER: u32 = 40;
-
-const MOST_FRAMES: u32 = 983_040;
 
 const MOST_VOLUME: u8 = 64;
 
@@ -68,10 +63,18 @@ fn in_frames(header: &SampleHeader, bytes: u32) -> u32
 }
 
 /// The number of frames.
-fn frames_of(header: &SampleHeader) -> u32
-    ensures { result ≡ frames_of header.now }
+fn frame_count(header: &SampleHeader) -> u32
+    ensures { result ≡ frame_count header.now }
 {
     in_frames(header, header.length)
+}
+
+/// A whole header, which is one field.
+fn read_whole_header(reader: &mut Reader) -> Result<SampleHeader, XmFault>
+    ensures { Reads (λ x. x) result reader.new (whole_header_at reader.old) }
+{
+    let mut piece = reader.piece(SAMPLE_HEADER)?;
+    read_fields(&mut piece)
 }
 
 /// The header of a sample. Instruments count from 1 and samples from 0 in its faults.
@@ -83,15 +86,14 @@ pub fn read_sample_header(
 ) -> Result<SampleHeader, XmFault>
     ensures { Reads (λ x. x) result reader.new (sample_header_at instrument number reader.old) }
 {
-    let mut piece = reader.piece(HEADER)?;
-    let header = read_fields(&mut piece)?;
+    let header = read_whole_header(reader)?;
     if is_stereo(&header) {
         return Err(XmFault::Stereo {
             instrument,
             sample: number,
         });
     }
-    let frames = frames_of(&header);
+    let frames = frame_count(&header);
     if frames > MOST_FRAMES {
         return Err(XmFault::TooLong {
             instrument,
@@ -103,7 +105,7 @@ pub fn read_sample_header(
 }
 
 /// A loop: its kind, and its first frame and its length in frames. Without one all are 0.
-#[derive(Clone, Copy, Debug)]
+#[derive(Clone, Copy)]
 struct Loop {
     kind: u8,
     start: u32,
@@ -116,7 +118,7 @@ fn loop_of(header: &SampleHeader) -> Loop
     ensures start { result.start ≡ (if is_unlooped header.now then 0 else loop_start_of header.now) }
     ensures len { result.len ≡ (if is_unlooped header.now then 0 else loop_len_of header.now) }
 {
-    let frames = frames_of(header);
+    let frames = frame_count(header);
     let kind = PING_PONG.min(header.kind % 4);
     let start = frames.min(in_frames(header, header.loop_start));
     let len = (frames - start).min(in_frames(header, header.loop_len));
@@ -132,7 +134,8 @@ fn loop_of(header: &SampleHeader) -> Loop
 
 /// The frames that steps give.
 fn frames_from(alloc: Global, wide: bool, steps: &[u8]) -> Result<Vec<i16>, XmFault>
-    ensures value { IfOk result (λ frames. frames.items ≡ (if wide then wide_frames steps.now else narrow_frames steps.now)) }
+    ensures value { IfOk result (λ frames. frames.items
+        ≡ (if wide then wide_frames steps.now else narrow_frames steps.now)) }
     ensures wanting { IfErr result (λ fault. fault ≡ XmFault.NoMemory) }
 {
     if wide {
@@ -143,9 +146,9 @@ fn frames_from(alloc: Global, wide: bool, steps: &[u8]) -> Result<Vec<i16>, XmFa
 }
 
 /// The sample of a header and its data, brought into range.
-#[tactic(auto, unfolding(ft_format::specs::Sample::sample_of))]
+#[tactic(auto, unfolding(ft_format::specs::Sample::sample_from))]
 pub fn sample_from(alloc: Global, header: &SampleHeader, steps: &[u8]) -> Result<Sample, XmFault>
-    ensures value { IfOk result (λ sample. sample ≡ sample_of header.now steps.now) }
+    ensures value { IfOk result (λ sample. sample ≡ sample_from header.now steps.now) }
     ensures wanting { IfErr result (λ fault. fault ≡ XmFault.NoMemory) }
 {
     let wide = is_wide(header);

@@ -9,8 +9,7 @@ use Rattle.std.proofs.lemmas.List.Sums.{AllPass-from_list_all}
 use Rattle.std.specs.List.{list_all, range_with_len}
 use Rattle.std.proofs.lemmas.List.Elements.{All-nil, All-cons, All-replicate}
 use Rattle.ft_types.specs.Valid.{IsBytes, IsValid, IsValidPattern, IsValidCell, IsValidInstrument, IsValidEnvelope, IsValidPoint, IsValidSample}
-use Rattle.ft_format.specs.Pattern.{empty_cell}
-use Rattle.ft_format.specs.Instrument.{zero_envelope}
+use Rattle.ft_format.specs.declared.layout.TheConstants.{EMPTY_CELL, NO_ENVELOPE}
 use Rattle.ft_xmwrite.specs.Generate.{next, draw, drawn, effect_of, drawn_note, drawn_cell, drawn_pattern, drawn_frame, drawn_sample, drawn_instrument, generated}
 
 -- ---- drawn lists
@@ -57,10 +56,10 @@ note_valid x =
       parameter = draw_low 256 effect.1 (omega arith);
     }
 
-empty_valid : IsValidCell empty_cell
+empty_valid : IsValidCell EMPTY_CELL
 empty_valid = record { note = omega arith; instrument = omega arith; volume = omega arith; effect = omega arith; parameter = omega arith }
 
-either_valid : (some : Bool) (x : ℕ) → IsValidCell (cond some (drawn_note x) (empty_cell, x)).0
+either_valid : (some : Bool) (x : ℕ) → IsValidCell (cond some (drawn_note x) (EMPTY_CELL, x)).0
 either_valid true x = note_valid x
 either_valid false x = empty_valid
 
@@ -121,7 +120,7 @@ sample_valid x =
 point_valid : IsValidPoint (record { x = 0; y = 0 })
 point_valid = record { x = omega arith; y = omega arith }
 
-envelope_valid : IsValidEnvelope zero_envelope
+envelope_valid : IsValidEnvelope NO_ENVELOPE
 envelope_valid = record {
   twelve = refl;
   points = All-replicate IsValidPoint 12 (record { x = 0; y = 0 }) point_valid;

@@ -1,7 +1,5 @@
 pub mod Drawn
 pub mod Generated
-mod WorkedDraws
-pub mod Lengths
-pub mod Parts
 pub mod Pieces
+mod WorkedDraws
 pub mod Steps

@@ -3,7 +3,8 @@ use Rattle.std.proofs.Common.{◌≡◌, ℕ, ◌+◌, ◌-◌, ◌/◌, ◌%◌
 use Rattle.std.specs.List.{flat_map}
 use Rattle.std.specs.Int.{w8, w16, cast_unsigned}
 use Rattle.std.proofs.lemmas.List.{drop_more}
-use Rattle.ft_format.specs.Canon.{u16, steps_from}
+use Rattle.ft_format.specs.Canon.{steps_from}
+use Rattle.ft_format.specs.Fields.{u16}
 
 -- the step to this value, and then the others
 pub next_narrow : (frames : List ℤ) (i before value : ℕ) (front whole : List ℕ) → i < length frames → value ≡ cast_unsigned w8 (get_or frames i (pos 0))

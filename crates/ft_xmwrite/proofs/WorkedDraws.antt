@@ -1,6 +1,6 @@
 -- The definition on numbers that were worked out from the rule.
 use Rattle.std.proofs.Common.{◌≡◌, pos, negsuc, [], ◌∷◌, refl}
-use Rattle.ft_format.specs.Pattern.{empty_cell}
+use Rattle.ft_format.specs.declared.layout.TheConstants.{EMPTY_CELL}
 use Rattle.ft_xmwrite.specs.Generate.{next, draw, drawn, drawn_note, drawn_cell, drawn_frame}
 
 -- 1664525 * 7 + 1013904223 is 1025555898, whose high half is 15648
@@ -12,7 +12,7 @@ cell_of_seven : drawn_cell 7 ≡ (record { note = 35; instrument = 13; volume = 
 unfolding drawn_cell drawn_note draw next
 cell_of_seven = refl
 
-cell_behind_it : drawn_cell 3675562389 ≡ (empty_cell, 1550419440)
+cell_behind_it : drawn_cell 3675562389 ≡ (EMPTY_CELL, 1550419440)
 unfolding drawn_cell drawn_note draw next
 cell_behind_it = refl
 

@@ -7,8 +7,7 @@ use Rattle.ft_types.specs.declared.pattern.Pattern.{Pattern}
 use Rattle.ft_types.specs.declared.pattern.Cell.{Cell}
 use Rattle.ft_types.specs.declared.instrument.Instrument.{Instrument}
 use Rattle.ft_types.specs.declared.sample.Sample.{Sample}
-use Rattle.ft_format.specs.Pattern.{empty_cell}
-use Rattle.ft_format.specs.Instrument.{zero_envelope}
+use Rattle.ft_format.specs.declared.layout.TheConstants.{EMPTY_CELL, NO_ENVELOPE, NO_VIBRATO}
 
 -- ---- drawing: a state gives a value, and the state behind it
 
@@ -56,7 +55,7 @@ drawn_note x =
 unfoldable pub drawn_cell : ℕ → Cell × ℕ
 drawn_cell x =
     let chance = draw 4 x in
-    if chance.0 == 0 then drawn_note chance.1 else (empty_cell, chance.1)
+    if chance.0 == 0 then drawn_note chance.1 else (EMPTY_CELL, chance.1)
 
 -- 64 rows of 8 channels
 unfoldable pub drawn_pattern : ℕ → Pattern × ℕ
@@ -97,9 +96,9 @@ drawn_instrument x =
       record {
         name = replicate 22 0;
         map = replicate 96 0;
-        volume = zero_envelope;
-        panning = zero_envelope;
-        vibrato = record { kind = 0; sweep = 0; depth = 0; rate = 0 };
+        volume = NO_ENVELOPE;
+        panning = NO_ENVELOPE;
+        vibrato = NO_VIBRATO;
         fadeout = 0;
         samples = sample.0 ∷ [];
       },

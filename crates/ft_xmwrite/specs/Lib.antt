@@ -1,2 +1,1 @@
 pub mod Generate
-pub mod Parts

@@ -1,8 +1,9 @@
 //! What every part is made of: bytes, and numbers of two and four bytes, the low byte first.
 
 ghost use Rattle.std.specs.Prelude.{◌≡◌, ◌≤◌, ◌++◌, replicate, OnOk};
-ghost use Rattle.ft_format.specs.Canon.{byte, u16 as bytes_of_u16, u32 as bytes_of_u32};
+ghost use Rattle.ft_format.specs.Fields.{byte, u16 as bytes_of_u16, u32 as bytes_of_u32};
 
+use byteorder::{ByteOrder, LittleEndian};
 use ft_types::NoMemory;
 
 /// Appends bytes as they are.
@@ -25,14 +26,18 @@ pub fn put_byte(bytes: &mut Vec<u8>, value: u8) -> Result<(), NoMemory>
 pub fn put_u16(bytes: &mut Vec<u8>, value: u16) -> Result<(), NoMemory>
     ensures { OnOk result (bytes.new.items ≡ bytes.old.items ++ bytes_of_u16 value) }
 {
-    put(bytes, &value.to_le_bytes())
+    let mut field = [0; 2];
+    LittleEndian::write_u16(&mut field, value);
+    put(bytes, &field)
 }
 
 /// Appends a number of four bytes.
 pub fn put_u32(bytes: &mut Vec<u8>, value: u32) -> Result<(), NoMemory>
     ensures { OnOk result (bytes.new.items ≡ bytes.old.items ++ bytes_of_u32 value) }
 {
-    put(bytes, &value.to_le_bytes())
+    let mut field = [0; 4];
+    LittleEndian::write_u32(&mut field, value);
+    put(bytes, &field)
 }
 
 /// Appends as many bytes of 0.

@@ -1,25 +1,17 @@
 //! The cells of a pattern.
 
-ghost use Rattle.std.specs.Prelude.{◌≡◌, ◌≤◌, ◌*◌, ◌++◌, [], ◌∷◌, length, filter, if◌then◌else◌, OnOk};
+ghost use Rattle.std.specs.Prelude.{◌≡◌, ◌≤◌, ◌*◌, ◌++◌, length, nat_lt, if◌then◌else◌, OnOk};
 ghost use Rattle.std.specs.List.{list_all};
-ghost use Rattle.ft_format.specs.Canon.{bytes_of_cell, is_set, mask_of, is_empty_cell, cell_bytes};
+ghost use Rattle.ft_format.specs.declared.layout.TheConstants.{MASK};
+ghost use Rattle.ft_format.specs.Fields.{byte_if_text};
+ghost use Rattle.ft_format.specs.Pattern.{note_text, raw_cell_text};
+ghost use Rattle.ft_format.specs.Canon.{bytes_of_cell, is_set, mask_of, is_empty_cell, raw_cell_of, cell_bytes};
 
-use crate::bytes::{put, put_byte};
+use crate::bytes::put_byte;
+use ft_format::{
+    EFFECT_BIT, INSTRUMENT_BIT, MASK, NOTE_BIT, PARAMETER_BIT, RawCell, VOLUME_BIT, has,
+};
 use ft_types::{Cell, NoMemory};
-
-/// The bit that tells a mask from the note of a plain cell.
-const MASK: u8 = 0x80;
-
-// The bits of a mask.
-const NOTE: u8 = 1;
-
-const INSTRUMENT: u8 = 2;
-
-const VOLUME: u8 = 4;
-
-const EFFECT: u8 = 8;
-
-const PARAMETER: u8 = 16;
 
 /// This bit of a mask where the byte isn't 0, else none.
 fn bit_if(value: u8, bit: u8) -> u8
@@ -29,19 +21,19 @@ fn bit_if(value: u8, bit: u8) -> u8
 }
 
 /// The mask of a cell: a bit for each byte that isn't 0.
-fn mask(cell: &Cell) -> u8
+fn mask_of(cell: &Cell) -> u8
     ensures value { result ≡ mask_of (bytes_of_cell cell.now) }
     ensures few { result ≤ 31 }
 {
-    bit_if(cell.note, NOTE)
-        + bit_if(cell.instrument, INSTRUMENT)
-        + bit_if(cell.volume, VOLUME)
-        + bit_if(cell.effect, EFFECT)
-        + bit_if(cell.parameter, PARAMETER)
+    bit_if(cell.note, NOTE_BIT)
+        + bit_if(cell.instrument, INSTRUMENT_BIT)
+        + bit_if(cell.volume, VOLUME_BIT)
+        + bit_if(cell.effect, EFFECT_BIT)
+        + bit_if(cell.parameter, PARAMETER_BIT)
 }
 
 /// Whether none of the five bytes is 0.
-fn is_plain(cell: &Cell) -> bool
+fn is_full(cell: &Cell) -> bool
     ensures { result ≡ list_all is_set (bytes_of_cell cell.now) }
 {
     cell.note != 0
@@ -62,65 +54,95 @@ pub fn is_empty(cell: &Cell) -> bool
         && cell.parameter == 0
 }
 
-/// 1 for a byte that is written behind a mask, 0 for one that isn't.
-fn len_if(value: u8) -> u16
-    ensures { result ≡ length (filter is_set (value ∷ [])) }
+/// A cell as it is spelled: its five bytes where none is 0, else a mask and the bytes that aren't 0.
+fn raw_cell_of(cell: &Cell) -> RawCell
+    ensures { result ≡ raw_cell_of cell.now }
 {
-    if value == 0 { 0 } else { 1 }
+    let first = if is_full(cell) {
+        cell.note
+    } else {
+        MASK + mask_of(cell)
+    };
+    RawCell { first, cell: *cell }
 }
 
-/// The number of bytes that a cell takes: five, or one for a mask and those that aren't 0.
-#[tactic(auto, unfolding(ft_format::specs::Canon::cell_bytes))]
+/// 1 for a byte that follows, 0 for one that doesn't.
+fn len_if(follows: bool, _value: u8) -> u16
+    ensures value { result ≡ length (byte_if_text follows _value) }
+    ensures few { result ≤ 1 }
+{
+    if follows { 1 } else { 0 }
+}
+
+/// The bytes that the note takes behind the first byte.
+fn note_len(raw: RawCell) -> u16
+    ensures value { result ≡ length (note_text (nat_lt raw.first MASK) raw.first raw.cell.note) }
+    ensures few { result ≤ 1 }
+{
+    if raw.first < MASK {
+        return 0;
+    }
+    len_if(raw.first % 2 == NOTE_BIT, raw.cell.note)
+}
+
+/// The bytes that a cell takes as it is spelled.
+#[tactic(auto, unfolding(ft_format::specs::Pattern::raw_cell_text))]
+fn raw_cell_len(raw: RawCell) -> u16
+    ensures value { result ≡ length (raw_cell_text raw) }
+    ensures few { result ≤ 6 }
+{
+    1 + note_len(raw)
+        + len_if(has(raw.first, INSTRUMENT_BIT), raw.cell.instrument)
+        + len_if(has(raw.first, VOLUME_BIT), raw.cell.volume)
+        + len_if(has(raw.first, EFFECT_BIT), raw.cell.effect)
+        + len_if(has(raw.first, PARAMETER_BIT), raw.cell.parameter)
+}
+
+/// The number of bytes that a cell takes, 1 to 6.
 pub fn cell_len(cell: &Cell) -> u16
     ensures value { result ≡ length (cell_bytes cell.now) }
     ensures few { result ≤ 6 }
 {
-    if is_plain(cell) {
-        return 5;
-    }
-    1 + len_if(cell.note)
-        + len_if(cell.instrument)
-        + len_if(cell.volume)
-        + len_if(cell.effect)
-        + len_if(cell.parameter)
+    raw_cell_len(raw_cell_of(cell))
 }
 
-/// A byte behind a mask, where it isn't 0.
-fn put_set(bytes: &mut Vec<u8>, value: u8) -> Result<(), NoMemory>
-    ensures { OnOk result (bytes.new.items ≡ bytes.old.items ++ filter is_set (value ∷ [])) }
+/// A byte that may be left out.
+fn put_if(bytes: &mut Vec<u8>, follows: bool, value: u8) -> Result<(), NoMemory>
+    ensures { OnOk result (bytes.new.items ≡ bytes.old.items ++ byte_if_text follows value) }
 {
-    if value == 0 {
+    if follows {
+        return put_byte(bytes, value);
+    }
+    Ok(())
+}
+
+/// The note behind the first byte, which may be the note itself.
+fn put_note(bytes: &mut Vec<u8>, raw: RawCell) -> Result<(), NoMemory>
+    ensures { OnOk result (bytes.new.items ≡ bytes.old.items
+        ++ note_text (nat_lt raw.first MASK) raw.first raw.cell.note) }
+{
+    if raw.first < MASK {
         return Ok(());
     }
-    put_byte(bytes, value)
+    put_if(bytes, raw.first % 2 == NOTE_BIT, raw.cell.note)
 }
 
-/// The bytes behind a mask.
-fn put_all_set(bytes: &mut Vec<u8>, cell: &Cell) -> Result<(), NoMemory>
-    ensures { OnOk result (bytes.new.items ≡ bytes.old.items ++ filter is_set (bytes_of_cell cell.now)) }
+/// A cell as it is spelled.
+#[tactic(auto, unfolding(ft_format::specs::Pattern::raw_cell_text))]
+fn put_raw_cell(bytes: &mut Vec<u8>, raw: RawCell) -> Result<(), NoMemory>
+    ensures { OnOk result (bytes.new.items ≡ bytes.old.items ++ raw_cell_text raw) }
 {
-    put_set(bytes, cell.note)?;
-    put_set(bytes, cell.instrument)?;
-    put_set(bytes, cell.volume)?;
-    put_set(bytes, cell.effect)?;
-    put_set(bytes, cell.parameter)
+    put_byte(bytes, raw.first)?;
+    put_note(bytes, raw)?;
+    put_if(bytes, has(raw.first, INSTRUMENT_BIT), raw.cell.instrument)?;
+    put_if(bytes, has(raw.first, VOLUME_BIT), raw.cell.volume)?;
+    put_if(bytes, has(raw.first, EFFECT_BIT), raw.cell.effect)?;
+    put_if(bytes, has(raw.first, PARAMETER_BIT), raw.cell.parameter)
 }
 
-/// A cell: its five bytes where none is 0, else a mask and the bytes that aren't 0.
-#[tactic(auto, unfolding(ft_format::specs::Canon::cell_bytes))]
+/// A cell.
 pub fn put_cell(bytes: &mut Vec<u8>, cell: &Cell) -> Result<(), NoMemory>
     ensures { OnOk result (bytes.new.items ≡ bytes.old.items ++ cell_bytes cell.now) }
 {
-    if is_plain(cell) {
-        let plain = [
-            cell.note,
-            cell.instrument,
-            cell.volume,
-            cell.effect,
-            cell.parameter,
-        ];
-        return put(bytes, &plain);
-    }
-    put_byte(bytes, MASK + mask(cell))?;
-    put_all_set(bytes, cell)
+    put_raw_cell(bytes, raw_cell_of(cell))
 }

@@ -2,7 +2,8 @@
 
 ghost use Rattle.std.specs.Prelude.{◌≡◌, ◌++◌, ◌^◌, All, FitsSigned, map, flat_map, OnOk};
 ghost use Rattle.std.specs.Int.{w8, w16, cast_unsigned};
-ghost use Rattle.ft_format.specs.Canon.{u16 as bytes_of_u16, steps_from};
+ghost use Rattle.ft_format.specs.Fields.{u16 as bytes_of_u16};
+ghost use Rattle.ft_format.specs.Canon.{steps_from};
 
 use ft_types::NoMemory;
 
@@ -10,7 +11,8 @@ use ft_types::NoMemory;
 /// the first is a step from 0.
 pub fn put_narrow(bytes: &mut Vec<u8>, frames: &[i16]) -> Result<(), NoMemory>
     requires { All (FitsSigned w8) frames.now }
-    ensures { OnOk result (bytes.new.items ≡ bytes.old.items ++ steps_from (2 ^ 8) 0 (map (cast_unsigned w8) frames.now)) }
+    ensures { OnOk result (bytes.new.items ≡ bytes.old.items
+        ++ steps_from (2 ^ 8) 0 (map (cast_unsigned w8) frames.now)) }
 {
     bytes.reserve(frames.len())?;
     let mut before = 0u8;
@@ -25,7 +27,8 @@ pub fn put_narrow(bytes: &mut Vec<u8>, frames: &[i16]) -> Result<(), NoMemory>
 /// Frames of 16 bits. Each is written as two bytes, the low one first: the step from the frame
 /// before it, which wraps; the first is a step from 0.
 pub fn put_wide(bytes: &mut Vec<u8>, frames: &[i16]) -> Result<(), NoMemory>
-    ensures { OnOk result (bytes.new.items ≡ bytes.old.items ++ flat_map bytes_of_u16 (steps_from (2 ^ 16) 0 (map (cast_unsigned w16) frames.now))) }
+    ensures { OnOk result (bytes.new.items ≡ bytes.old.items
+        ++ flat_map bytes_of_u16 (steps_from (2 ^ 16) 0 (map (cast_unsigned w16) frames.now))) }
 {
     bytes.reserve(2 * frames.len())?;
     let mut before = 0u16;

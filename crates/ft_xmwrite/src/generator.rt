@@ -8,8 +8,6 @@ ghost use Rattle.ft_xmwrite.specs.Generate.{generated};
 mod draws;
 mod instrument;
 mod pattern;
-#[cfg(test)]
-mod tests;
 
 use draws::Draws;
 use ft_types::{Module, NoMemory, Orders};

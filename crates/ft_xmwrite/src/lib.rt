@@ -16,6 +16,3 @@ mod writing;
 
 pub use generator::generate;
 pub use writing::write_xm;
-
-#[cfg(test)]
-mod tests;

@@ -2,81 +2,85 @@
 
 ghost use Rattle.std.specs.Prelude.{◌≡◌, ◌≤◌, ◌+◌, ◌*◌, ◌++◌, length, flat_map, All, OnOk};
 ghost use Rattle.ft_types.specs.Valid.{IsValidSample};
-ghost use Rattle.ft_format.specs.Canon.{signed_byte, frame_size, type_of, sample_header_bytes, sample_data};
-ghost use Rattle.ft_xmwrite.specs.Parts.{in_bytes, lengths, sound};
+ghost use Rattle.ft_format.specs.declared.limits.TheConstants.{MOST_FRAMES};
+ghost use Rattle.ft_format.specs.Sample.{lengths_text, numbers_text, sample_header_text};
+ghost use Rattle.ft_format.specs.Canon.{frame_size, sample_header_of, sample_header_bytes, sample_data};
 
-use crate::bytes::{put, put_byte, put_u32};
+use crate::bytes::{put, put_u32};
 use crate::deltas::{put_narrow, put_wide};
+use ft_format::{SAMPLE_HEADER, SampleHeader, canonical_sizes};
 use ft_types::{NoMemory, Sample};
-
-/// The bytes of a sample header.
-pub const SAMPLE_HEADER: u32 = 40;
 
 /// The bit of a type byte that says 16-bit frames.
 const WIDE: u8 = 16;
 
 /// A number of frames as one of bytes.
 fn in_bytes(sample: &Sample, frames: u32) -> u32
-    requires { frames ≤ 983040 }
+    requires { frames ≤ MOST_FRAMES }
     ensures { result ≡ frame_size sample.now * frames }
 {
     if sample.wide { 2 * frames } else { frames }
 }
 
-/// A number of frames, counted in bytes.
-fn put_in_bytes(bytes: &mut Vec<u8>, sample: &Sample, frames: u32) -> Result<(), NoMemory>
-    requires { frames ≤ 983040 }
-    ensures { OnOk result (bytes.new.items ≡ bytes.old.items ++ in_bytes sample.now frames) }
-{
-    put_u32(bytes, in_bytes(sample, frames))
-}
-
 /// The type byte: the kind of loop, and whether frames have 16 bits.
-fn type_of(sample: &Sample) -> u8
+fn kind_of(sample: &Sample) -> u8
     requires { sample.now.loop_kind ≤ 2 }
-    ensures { result ≡ type_of sample.now }
+    ensures { result ≡ (sample_header_of sample.now).kind }
 {
     sample.loop_kind + if sample.wide { WIDE } else { 0 }
 }
 
-/// A signed byte, in two's complement.
-fn put_signed(bytes: &mut Vec<u8>, value: i8) -> Result<(), NoMemory>
-    ensures { OnOk result (bytes.new.items ≡ bytes.old.items ++ signed_byte value) }
+/// The header of a sample, whose length and loop count bytes.
+fn sample_header_of(sample: &Sample) -> SampleHeader
+    requires { IsValidSample sample.now }
+    ensures { result ≡ sample_header_of sample.now }
 {
-    put_byte(bytes, value.cast_unsigned())
+    SampleHeader {
+        length: in_bytes(sample, sample.frames.len() as u32),
+        loop_start: in_bytes(sample, sample.loop_start),
+        loop_len: in_bytes(sample, sample.loop_len),
+        volume: sample.volume,
+        finetune: sample.finetune.cast_unsigned(),
+        kind: kind_of(sample),
+        panning: sample.panning,
+        relative: sample.relative.cast_unsigned(),
+        skipped: 0,
+        name: sample.name,
+    }
 }
 
-/// Bytes 0 to 11 of a sample header: its length and its loop, counted in bytes.
-fn put_lengths(bytes: &mut Vec<u8>, sample: &Sample) -> Result<(), NoMemory>
-    requires { IsValidSample sample.now }
-    ensures { OnOk result (bytes.new.items ≡ bytes.old.items ++ lengths sample.now) }
+/// Bytes 0 to 11 of a sample header: its length and its loop.
+fn put_lengths(bytes: &mut Vec<u8>, header: &SampleHeader) -> Result<(), NoMemory>
+    ensures { OnOk result (bytes.new.items ≡ bytes.old.items ++ lengths_text header.now) }
 {
-    put_in_bytes(bytes, sample, sample.frames.len() as u32)?;
-    put_in_bytes(bytes, sample, sample.loop_start)?;
-    put_in_bytes(bytes, sample, sample.loop_len)
+    put_u32(bytes, header.length)?;
+    put_u32(bytes, header.loop_start)?;
+    put_u32(bytes, header.loop_len)
 }
 
 /// Bytes 12 to 17: volume, finetune, type, panning, relative note, and one that is skipped.
-fn put_sound(bytes: &mut Vec<u8>, sample: &Sample) -> Result<(), NoMemory>
-    requires { IsValidSample sample.now }
-    ensures { OnOk result (bytes.new.items ≡ bytes.old.items ++ sound sample.now) }
+fn put_numbers(bytes: &mut Vec<u8>, header: &SampleHeader) -> Result<(), NoMemory>
+    ensures { OnOk result (bytes.new.items ≡ bytes.old.items ++ numbers_text header.now) }
 {
-    put_byte(bytes, sample.volume)?;
-    put_signed(bytes, sample.finetune)?;
-    put_byte(bytes, type_of(sample))?;
-    put_byte(bytes, sample.panning)?;
-    put_signed(bytes, sample.relative)?;
-    put_byte(bytes, 0)
+    let numbers = [
+        header.volume,
+        header.finetune,
+        header.kind,
+        header.panning,
+        header.relative,
+        header.skipped,
+    ];
+    put(bytes, &numbers)
 }
 
 /// A sample header, 40 bytes, of which the last 22 are the name.
-fn put_sample_header(bytes: &mut Vec<u8>, sample: &Sample) -> Result<(), NoMemory>
-    requires { IsValidSample sample.now }
-    ensures { OnOk result (bytes.new.items ≡ bytes.old.items ++ sample_header_bytes sample.now) }
+#[tactic(auto, unfolding(ft_format::specs::Sample::sample_header_text))]
+fn put_header(bytes: &mut Vec<u8>, header: &SampleHeader) -> Result<(), NoMemory>
+    ensures { OnOk result (bytes.new.items ≡ bytes.old.items ++ sample_header_text header.now) }
 {
-    put_lengths(bytes, sample)?;
-    put_sound(bytes, sample)?;
-    put(bytes, &sample.name)
+    put_lengths(bytes, header)?;
+    put_numbers(bytes, header)?;
+    put(bytes, &header.name)
 }
 
 /// The data of a sample: its frames as steps.
@@ -92,12 +96,13 @@ fn put_sample_data(bytes: &mut Vec<u8>, sample: &Sample) -> Result<(), NoMemory>
 }
 
 /// The number of bytes of a sample, its header and its data.
-#[tactic(auto, using(crate::proofs::Lengths::length_sample_header, crate::proofs::Lengths::length_data))]
 fn sample_len(sample: &Sample) -> usize
     requires { IsValidSample sample.now }
-    ensures value { result ≡ length (sample_header_bytes sample.now) + length (sample_data sample.now) }
+    ensures value { result
+        ≡ length (sample_header_bytes sample.now) + length (sample_data sample.now) }
     ensures few { result ≤ 1966120 }
 {
+    canonical_sizes();
     SAMPLE_HEADER as usize + in_bytes(sample, sample.frames.len() as u32) as usize
 }
 
@@ -105,7 +110,8 @@ fn sample_len(sample: &Sample) -> usize
 pub fn samples_len(samples: &[Sample]) -> usize
     requires few { length samples.now ≤ 16 }
     requires valid { All IsValidSample samples.now }
-    ensures value { result ≡ length (flat_map sample_header_bytes samples.now) + length (flat_map sample_data samples.now) }
+    ensures value { result ≡ length (flat_map sample_header_bytes samples.now)
+        + length (flat_map sample_data samples.now) }
     ensures few { result ≤ 31457920 }
 {
     let mut len = 0;
@@ -118,10 +124,11 @@ pub fn samples_len(samples: &[Sample]) -> usize
 /// Sample headers, one after the other.
 pub fn put_sample_headers(bytes: &mut Vec<u8>, samples: &[Sample]) -> Result<(), NoMemory>
     requires { All IsValidSample samples.now }
-    ensures { OnOk result (bytes.new.items ≡ bytes.old.items ++ flat_map sample_header_bytes samples.now) }
+    ensures { OnOk result (bytes.new.items ≡ bytes.old.items
+        ++ flat_map sample_header_bytes samples.now) }
 {
     for sample in samples {
-        put_sample_header(bytes, sample)?;
+        put_header(bytes, &sample_header_of(sample))?;
     }
     Ok(())
 }
@@ -129,7 +136,8 @@ pub fn put_sample_headers(bytes: &mut Vec<u8>, samples: &[Sample]) -> Result<(),
 /// The data of samples, one after the other.
 pub fn put_samples_data(bytes: &mut Vec<u8>, samples: &[Sample]) -> Result<(), NoMemory>
     requires { All IsValidSample samples.now }
-    ensures { OnOk result (bytes.new.items ≡ bytes.old.items ++ flat_map sample_data samples.now) }
+    ensures { OnOk result (bytes.new.items ≡ bytes.old.items
+        ++ flat_map sample_data samples.now) }
 {
     for sample in samples {
         put_sample_data(bytes, sample)?;

@@ -8,26 +8,22 @@ ghost use Rattle.ft_format.specs.Spelling.{Spells};
 use crate::header::put_header;
 use crate::instrument::{instruments_len, put_instruments};
 use crate::pattern::{patterns_len, put_patterns};
-use ft_format::canonical_is_spelled;
+use ft_format::{HEADER, canonical_is_spelled, canonical_parts, canonical_sizes};
 use ft_types::{Module, NoMemory};
 use std::alloc::Global;
 
-/// The bytes of a header.
-const HEADER: usize = 336;
-
 /// The number of bytes of a whole file.
-#[tactic(auto, using(crate::proofs::Lengths::length_canon))]
 fn file_len(song: &Module) -> usize
     requires { IsValid song.now }
     ensures { result ≡ length (canon song.now) }
 {
+    canonical_sizes();
     HEADER + patterns_len(song) + instruments_len(song.instruments.as_slice())
 }
 
 /// The canonical bytes of a valid song, as a file of the Extended Module format, version 1.04.
 ///
 /// `valid` of ft_types says whether a song is valid. An `Err` says that memory was wanting.
-#[tactic(auto, unfolding(ft_format::specs::Canon::canon))]
 pub fn write_xm(alloc: Global, song: &Module) -> Result<Vec<u8>, NoMemory>
     requires { IsValid song.now }
     // The canonical bytes of the song,
@@ -36,6 +32,7 @@ pub fn write_xm(alloc: Global, song: &Module) -> Result<Vec<u8>, NoMemory>
     ensures spelled { IfOk result (λ bytes. Spells bytes.items song.now) }
 {
     canonical_is_spelled();
+    canonical_parts();
     let mut bytes = Vec::with_capacity(alloc, file_len(song))?;
     put_header(&mut bytes, song)?;
     put_patterns(&mut bytes, song)?;

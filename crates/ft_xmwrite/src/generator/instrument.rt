@@ -4,31 +4,14 @@ ghost use Rattle.std.specs.Prelude.{◌≡◌, [], ◌∷◌, IfOk};
 ghost use Rattle.ft_xmwrite.specs.Generate.{drawn_frame, drawn_sample, drawn_instrument, drawn};
 
 use crate::generator::draws::Draws;
-use ft_types::{
-    Envelope, Frames, Instrument, Instruments, NoMemory, Point, Sample, Samples, Vibrato,
-};
+use ft_format::{NO_ENVELOPE, NO_VIBRATO};
+use ft_types::{Frames, Instrument, Instruments, NoMemory, Sample, Samples};
 use std::alloc::Global;
 
 /// Frames of a sample.
 const FRAMES: u32 = 16_384;
 
 const INSTRUMENTS: usize = 16;
-
-const ENVELOPE: Envelope = Envelope {
-    points: [Point { x: 0, y: 0 }; 12],
-    count: 0,
-    sustain: 0,
-    loop_start: 0,
-    loop_end: 0,
-    flags: 0,
-};
-
-const VIBRATO: Vibrato = Vibrato {
-    kind: 0,
-    sweep: 0,
-    depth: 0,
-    rate: 0,
-};
 
 #[tactic(auto, unfolding(crate::specs::Generate::drawn_frame))]
 fn frame(draws: &mut Draws) -> i16
@@ -89,9 +72,9 @@ fn instrument(alloc: Global, draws: &mut Draws) -> Result<Instrument, NoMemory>
     Ok(Instrument {
         name: [0; 22],
         map: [0; 96],
-        volume: ENVELOPE,
-        panning: ENVELOPE,
-        vibrato: VIBRATO,
+        volume: NO_ENVELOPE,
+        panning: NO_ENVELOPE,
+        vibrato: NO_VIBRATO,
         fadeout: 0,
         samples,
     })

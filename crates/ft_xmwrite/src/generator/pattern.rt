@@ -1,10 +1,10 @@
 //! Patterns of a generated song.
 
 ghost use Rattle.std.specs.Prelude.{◌≡◌, ◌<◌, IfOk};
-ghost use Rattle.ft_format.specs.Pattern.{empty_cell};
 ghost use Rattle.ft_xmwrite.specs.Generate.{effect_of, drawn_note, drawn_cell, drawn_pattern, drawn};
 
 use crate::generator::draws::Draws;
+use ft_format::EMPTY_CELL;
 use ft_types::{Cell, Cells, NoMemory, Pattern, Patterns};
 use std::alloc::Global;
 
@@ -17,14 +17,6 @@ const PATTERNS: usize = 40;
 
 /// The effects of notes.
 const EFFECTS: [u8; 4] = [0, 1, 4, 10];
-
-const EMPTY: Cell = Cell {
-    note: 0,
-    instrument: 0,
-    volume: 0,
-    effect: 0,
-    parameter: 0,
-};
 
 fn effect_of(k: u32) -> u8
     requires { k < 4 }
@@ -61,7 +53,7 @@ fn cell(draws: &mut Draws) -> Cell
     if draws.draw(4) == 0 {
         note(draws)
     } else {
-        EMPTY
+        EMPTY_CELL
     }
 }
 

@@ -1,5 +1,5 @@
 use Rattle.std.proofs.Common.{◌≡◌, ◌-◌, length, take}
-use Rattle.ft_xmread.specs.Reading.{times}
+use Rattle.ft_xmread.specs.Reader.{times}
 use Rattle.ft_xmread.specs.Instrument.{point_at}
 use Rattle.ft_xmread.proofs.Loop.{with_front}
 use Rattle.ft_xmread.proofs.envelopes.read_points.Given as goal

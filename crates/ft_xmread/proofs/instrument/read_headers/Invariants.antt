@@ -1,5 +1,5 @@
 use Rattle.std.proofs.Common.{◌≡◌, ◌-◌}
-use Rattle.ft_xmread.specs.Reading.{times}
+use Rattle.ft_xmread.specs.Reader.{times}
 use Rattle.ft_xmread.specs.Sample.{sample_header_at}
 use Rattle.ft_xmread.proofs.Loop.{with_front}
 use Rattle.ft_xmread.proofs.instrument.read_headers.Given as goal

@@ -1,4 +1,4 @@
-use Rattle.ft_xmread.specs.Reading.{times}
+use Rattle.ft_xmread.specs.Reader.{times}
 use Rattle.ft_xmread.specs.Pattern.{pattern_at}
 use Rattle.std.proofs.lemmas.Result.{err_from_is_err_and}
 use Rattle.ft_xmread.proofs.Loop.{goes_on, fails_on, is_done}

@@ -2,7 +2,8 @@ use Rattle.std.proofs.Common.{◌≡◌, ◌++◌, ◌+◌, ℕ, List, rules, ar
 use Rattle.std.specs.List.{flat_map}
 use Rattle.std.specs.Int.{w16, cast_unsigned}
 use Rattle.std.proofs.lemmas.List.{length-drop}
-use Rattle.ft_format.specs.Canon.{u16, steps_from}
+use Rattle.ft_format.specs.Canon.{steps_from}
+use Rattle.ft_format.specs.Fields.{u16}
 use Rattle.ft_xmwrite.proofs.Steps.{next_wide}
 use Rattle.ft_xmwrite.proofs.deltas.put_wide.Goals as goal
 

@@ -1,7 +1,8 @@
 use Rattle.std.proofs.Common.{◌≡◌, ◌≤◌, ◌+◌, ◌*◌, ◌^◌, ◌++◌, drop, length, map, vec_len, vec_capacity}
 use Rattle.std.specs.Int.{w16, cast_unsigned}
 use Rattle.std.specs.List.{flat_map}
-use Rattle.ft_format.specs.Canon.{u16, steps_from}
+use Rattle.ft_format.specs.Canon.{steps_from}
+use Rattle.ft_format.specs.Fields.{u16}
 use Rattle.ft_xmwrite.proofs.deltas.put_wide.Given as goal
 
 abbrev pub invariant-loop-frame : goal.invariant-loop-frame
