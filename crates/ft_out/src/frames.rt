@@ -7,7 +7,7 @@ ghost use Rattle.ft_outer.specs.Pieces.{TakesFront};
 ghost use Rattle.ft_out.specs.Wav.{sound_bytes};
 
 use byteorder::{ByteOrder, LittleEndian};
-use ft_outer::{Sink, WriteFault, put_all};
+use ft_outer::{Sink, WriteFault, put_all, taking_law};
 
 /// The bytes of the longest tick: 3,750 frames of four bytes.
 pub const TICK_BYTES: usize = 15_000;
@@ -15,8 +15,10 @@ pub const TICK_BYTES: usize = 15_000;
 /// Writes the numbers of `out`, each in two bytes, the low byte first. The sound of a tick goes
 /// to the sink at once. Takes no memory.
 pub fn put_frames<W: Sink>(sink: &mut W, out: &[i16]) -> Result<(), WriteFault>
-    ensures whole { OnOk result (Appends (W.held sink.old) (W.held sink.new) (sound_bytes out.now)) }
-    ensures front { OnErr result (TakesFront (W.held sink.old) (W.held sink.new) (sound_bytes out.now)) }
+    ensures whole { OnOk result
+        (Appends (W.held sink.old) (W.held sink.new) (sound_bytes out.now)) }
+    ensures front { OnErr result
+        (TakesFront (W.held sink.old) (W.held sink.new) (sound_bytes out.now)) }
     ensures cause { HasCause (W.faults sink.old) (W.faults sink.new) result }
 {
     put_frames_through(sink, &mut [0; TICK_BYTES], out)
@@ -31,10 +33,13 @@ pub fn put_frames_through<W: Sink>(
     out: &[i16],
 ) -> Result<(), WriteFault>
     requires { 2 ≤ length buffer.old }
-    ensures whole { OnOk result (Appends (W.held sink.old) (W.held sink.new) (sound_bytes out.now)) }
-    ensures front { OnErr result (TakesFront (W.held sink.old) (W.held sink.new) (sound_bytes out.now)) }
+    ensures whole { OnOk result
+        (Appends (W.held sink.old) (W.held sink.new) (sound_bytes out.now)) }
+    ensures front { OnErr result
+        (TakesFront (W.held sink.old) (W.held sink.new) (sound_bytes out.now)) }
     ensures cause { HasCause (W.faults sink.old) (W.faults sink.new) result }
 {
+    taking_law();
     let most = buffer.len() / 2;
     let mut rest = out;
     while !rest.is_empty() {
@@ -48,8 +53,10 @@ pub fn put_frames_through<W: Sink>(
 /// Writes the numbers of a piece in one go, by way of the front of `buffer`.
 fn put_piece<W: Sink>(sink: &mut W, buffer: &mut [u8], piece: &[i16]) -> Result<(), WriteFault>
     requires { 2 * length piece.now ≤ length buffer.old }
-    ensures whole { OnOk result (Appends (W.held sink.old) (W.held sink.new) (sound_bytes piece.now)) }
-    ensures front { OnErr result (TakesFront (W.held sink.old) (W.held sink.new) (sound_bytes piece.now)) }
+    ensures whole { OnOk result
+        (Appends (W.held sink.old) (W.held sink.new) (sound_bytes piece.now)) }
+    ensures front { OnErr result
+        (TakesFront (W.held sink.old) (W.held sink.new) (sound_bytes piece.now)) }
     ensures cause { HasCause (W.faults sink.old) (W.faults sink.new) result }
 {
     let bytes = &mut buffer[..2 * piece.len()];

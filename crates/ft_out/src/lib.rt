@@ -3,9 +3,8 @@
 
 mod frames;
 mod head;
+mod laws;
 
 pub use frames::{TICK_BYTES, put_frames, put_frames_through};
 pub use head::wav_head;
-
-#[cfg(test)]
-mod tests;
+pub use laws::sound_bytes_law;

@@ -1,3 +1,5 @@
 pub mod Counts
+pub mod Files
+pub mod Laws
 pub mod Memory
 pub mod Pieces

@@ -44,11 +44,6 @@ pub record SureSinkState : Type 0 where
   pub shelf : ShelfState
   pub faults : ℕ
 
--- what a file shows of itself as a source: how many bytes it gave, and how often it failed
-pub record FileSourceState : Type 0 where
-  pub given : ℕ
-  pub faults : ℕ
-
 -- the number of the next call
 abbrev pub next_call : CallState → ℕ
 next_call calls = count_after calls.made 1
@@ -67,7 +62,8 @@ share_of supply room = min (min room supply.piece) (length supply.left)
 
 -- the supply after a call that gave n bytes
 abbrev pub after_giving : SupplyState → ℕ → SupplyState
-after_giving supply n = record supply { left = drop n supply.left; given = count_after supply.given n }
+after_giving supply n =
+    record supply { left = drop n supply.left; given = count_after supply.given n }
 
 -- no byte more fits
 abbrev pub IsFull : ShelfState → Type 0

@@ -39,8 +39,10 @@ impl MemSink {
         fails: Vec<u32>,
     ) -> Result<MemSink, NoMemory>
         requires { 1 ≤ piece }
-        ensures shelf { IfOk result (λ sink. sink.shelf ≡ record { bytes = []; room = room; piece = piece }) }
-        ensures calls { IfOk result (λ sink. sink.calls ≡ record { fails = fails.items; made = 0; faults = 0 }) }
+        ensures shelf { IfOk result (λ sink. sink.shelf
+            ≡ record { bytes = []; room = room; piece = piece }) }
+        ensures calls { IfOk result (λ sink. sink.calls
+            ≡ record { fails = fails.items; made = 0; faults = 0 }) }
     {
         Ok(MemSink {
             shelf: Shelf::new(alloc, room, piece)?,
@@ -66,7 +68,8 @@ impl Sink for MemSink {
         // What every sink keeps.
         ensures bound { IfOk result (λ n. n ≤ length piece.now) }
         ensures some { IfOk result (λ n. 0 < length piece.now → 0 < n) }
-        ensures bytes { WriteAppends (Some self.old.shelf.bytes) (Some self.new.shelf.bytes) result piece.now }
+        ensures bytes { WriteAppends (Some self.old.shelf.bytes) (Some self.new.shelf.bytes) result
+            piece.now }
         ensures cause { HasCause self.old.calls.faults self.new.calls.faults result }
 
         ensures fails { IsErr result ↔ (Contains self.old.calls.fails (next_call self.old.calls)
@@ -74,7 +77,10 @@ impl Sink for MemSink {
 
         ensures count { IfOk result (λ n. n ≡ fit_of self.old.shelf (length piece.now)) }
         ensures after { IfOk result (λ n. self.new
-            ≡ record { shelf = after_taking self.old.shelf piece.now n; calls = after_call self.old.calls }) }
+            ≡ record {
+              shelf = after_taking self.old.shelf piece.now n;
+              calls = after_call self.old.calls;
+            }) }
 
         ensures failed { OnErr result (self.new
             ≡ record { shelf = self.old.shelf; calls = after_fault (after_call self.old.calls) }) }

@@ -53,8 +53,10 @@ impl Source for MemSource {
     fn read(&mut self, buf: &mut [u8]) -> Result<usize, Failed>
         // What every source keeps.
         ensures bound { ReadsAtMost result buf.new }
-        ensures bytes { ReadConsumes (Some self.old.supply.left) (Some self.new.supply.left) result buf.new }
-        ensures counted { IfOk result (λ n. self.new.supply.given ≡ count_after self.old.supply.given n) }
+        ensures bytes { ReadConsumes (Some self.old.supply.left) (Some self.new.supply.left) result
+            buf.new }
+        ensures counted { IfOk result (λ n. self.new.supply.given
+            ≡ count_after self.old.supply.given n) }
         ensures uncounted { OnErr result (self.new.supply.given ≡ self.old.supply.given) }
         ensures cause { HasCause self.old.calls.faults self.new.calls.faults result }
 
@@ -63,11 +65,17 @@ impl Source for MemSource {
         ensures count { IfOk result (λ n. n ≡ share_of self.old.supply (length buf.old)) }
         ensures given { IfOk result (λ n. buf.new ≡ take n self.old.supply.left ++ drop n buf.old) }
         ensures after { IfOk result (λ n. self.new
-            ≡ record { supply = after_giving self.old.supply n; calls = after_call self.old.calls }) }
+            ≡ record {
+              supply = after_giving self.old.supply n;
+              calls = after_call self.old.calls;
+            }) }
 
         ensures kept { OnErr result (buf.new ≡ buf.old) }
         ensures failed { OnErr result (self.new
-            ≡ record { supply = self.old.supply; calls = after_fault (after_call self.old.calls) }) }
+            ≡ record {
+              supply = self.old.supply;
+              calls = after_fault (after_call self.old.calls);
+            }) }
     {
         self.calls.next()?;
         Ok(self.supply.give(buf))

@@ -50,19 +50,24 @@ pub fn read_all<S: Source>(alloc: Global, source: &mut S, most: usize) -> Result
     requires countable { most < 2 ^ 62 }
 
     // The bytes are all that was left, and nothing is left.
-    ensures whole { IfOk result (λ bytes. GivesAll (S.left source.old) (S.left source.new) bytes.items) }
-    ensures gave { IfOk result (λ bytes. S.given source.new ≡ S.given source.old + length bytes.items) }
+    ensures whole { IfOk result
+        (λ bytes. GivesAll (S.left source.old) (S.left source.new) bytes.items) }
+    ensures gave { IfOk result (λ bytes. S.given source.new
+        ≡ S.given source.old + length bytes.items) }
 
     // Whatever the answer is, the source gave some bytes, and they are counted.
     ensures given { (bytes : List ℕ) × Gives (S.left source.old) (S.left source.new)
         (S.given source.old) (S.given source.new) bytes }
 
     // It is too big exactly where the source gave more than `most` bytes, and so had more.
-    ensures too_big { IsErrOf result ReadFault.TooBig → S.given source.old + most < S.given source.new }
+    ensures too_big { IsErrOf result ReadFault.TooBig
+        → S.given source.old + most < S.given source.new }
     ensures had_more { IsErrOf result ReadFault.TooBig → HasMore (S.left source.old) most }
-    ensures within { (result ≢ Err ReadFault.TooBig) → S.given source.new ≤ S.given source.old + most }
+    ensures within { (result ≢ Err ReadFault.TooBig)
+        → S.given source.new ≤ S.given source.old + most }
 
-    ensures failed { IsErrOf result ReadFault.Failed → Rose (S.faults source.old) (S.faults source.new) }
+    ensures failed { IsErrOf result ReadFault.Failed
+        → Rose (S.faults source.old) (S.faults source.new) }
     ensures kept { (result ≢ Err ReadFault.Failed) → S.faults source.new ≡ S.faults source.old }
     ensures later { S.faults source.old ≤ S.faults source.new }
 {

@@ -87,7 +87,8 @@ impl SureSink {
     /// `piece` bytes.
     pub fn new(alloc: Global, room: usize, piece: usize) -> Result<SureSink, NoMemory>
         requires { 1 ≤ piece }
-        ensures shelf { IfOk result (λ sink. sink.shelf ≡ record { bytes = []; room = room; piece = piece }) }
+        ensures shelf { IfOk result (λ sink. sink.shelf
+            ≡ record { bytes = []; room = room; piece = piece }) }
         ensures faults { IfOk result (λ sink. sink.faults ≡ 0) }
     {
         Ok(SureSink {
@@ -114,7 +115,8 @@ impl Sink for SureSink {
         // What every sink keeps.
         ensures bound { IfOk result (λ n. n ≤ length piece.now) }
         ensures some { IfOk result (λ n. 0 < length piece.now → 0 < n) }
-        ensures bytes { WriteAppends (Some self.old.shelf.bytes) (Some self.new.shelf.bytes) result piece.now }
+        ensures bytes { WriteAppends (Some self.old.shelf.bytes) (Some self.new.shelf.bytes) result
+            piece.now }
         ensures cause { HasCause self.old.faults self.new.faults result }
 
         ensures fails { IsErr result ↔ (IsFull self.old.shelf × (0 < length piece.now)) }

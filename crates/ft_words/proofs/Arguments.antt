@@ -12,7 +12,7 @@ use Rattle.clap.specs.Simple.{App}
 use Rattle.clap.proofs.WalkLemmas.{first_value-rows, one_text-rows}
 use Rattle.clap.specs.declared.builder.action.ArgAction.TheVariants.{Set}
 use Rattle.clap.specs.declared.parser.matches.ArgMatches.{ArgMatches}
-use Rattle.ft_words.specs.Commands.{copy_app, file_rule, gen_app, number_rule, option_rule, step_app, within}
+use Rattle.ft_words.specs.Commands.{copy_app, file_rule, gen_app, number_rule, option_rule, step_app, numbers_within}
 use Rattle.ft_words.specs.Answer.{IsNumberOf}
 use Rattle.ft_words.specs.Files.{IsNamed}
 use Rattle.ft_words.specs.Refused.{AreMatches, IsParseOf}
@@ -40,11 +40,11 @@ pub step_ledger : IsArgument step_app 2 (file_rule (codes "ledger"))
 unfolding step_app
 step_ledger = record { sound = refl; there = refl; alone = refl; set = refl; one = refl; comes = refl; own = refl }
 
-pub step_rate : IsArgument step_app 3 (option_rule (codes "rate") (codes "44100") (within 8000 48000))
+pub step_rate : IsArgument step_app 3 (option_rule (codes "rate") (codes "44100") (numbers_within 8000 48000))
 unfolding step_app
 step_rate = record { sound = refl; there = refl; alone = refl; set = refl; one = refl; comes = refl; own = refl }
 
-pub step_seconds : IsArgument step_app 4 (option_rule (codes "seconds") (codes "60") (within 1 1200))
+pub step_seconds : IsArgument step_app 4 (option_rule (codes "seconds") (codes "60") (numbers_within 1 1200))
 unfolding step_app
 step_seconds = record { sound = refl; there = refl; alone = refl; set = refl; one = refl; comes = refl; own = refl }
 
@@ -56,7 +56,7 @@ pub copy_out : IsArgument copy_app 1 (file_rule (codes "out"))
 unfolding copy_app
 copy_out = record { sound = refl; there = refl; alone = refl; set = refl; one = refl; comes = refl; own = refl }
 
-pub gen_number : IsArgument gen_app 0 (number_rule (codes "number") (within 0 4294967295))
+pub gen_number : IsArgument gen_app 0 (number_rule (codes "number") (numbers_within 0 4294967295))
 unfolding gen_app
 gen_number = record { sound = refl; there = refl; alone = refl; set = refl; one = refl; comes = refl; own = refl }
 
@@ -90,10 +90,10 @@ IsNumberIn a ws id low high n = IsNumberOf a ws id n × (low ≤ n) × (n ≤ hi
 
 module _ (E : Type 0) (ReadsNumber : Text → Result ℕ E → Type 0) (only : (u : Text) (x : Result ℕ E) → ReadsNumber u x → ParsesUnsigned 32 10 u x)
     (a : App) (k : ℕ) (r : Rule) (ws : List Text) (m : ArgMatches) (low high : ℕ) (g : IsArgument a k r) (h : IsParseOf a m)
-    (parser : r.parser ≡ Some (within low high)) (fits : high < 2 ^ 32)
+    (parser : r.parser ≡ Some (numbers_within low high)) (fits : high < 2 ^ 32)
     (o : Option ℕ) (reads : (t : Text) → one_text (found_of m) r.id ≡ Some t → ReadsOne ReadsNumber t o) where
-  passed : (t : Text) × (one_text (found_of m) r.id ≡ Some (without_minus t)) × Accepts r.ignore_case (within low high) t
-  passed = value_passes h.0 m h.2 a h.1 g.sound k r g.there g.alone g.set g.one g.comes g.own (within low high) parser
+  passed : (t : Text) × (one_text (found_of m) r.id ≡ Some (without_minus t)) × Accepts r.ignore_case (numbers_within low high) t
+  passed = value_passes h.0 m h.2 a h.1 g.sound k r g.there g.alone g.set g.one g.comes g.own (numbers_within low high) parser
 
   some_number : (n : ℕ) × (o ≡ Some n) × (low ≤ n) × (n ≤ high)
   some_number = signed_reads E ReadsNumber 32 low high passed.0 o (reads (without_minus passed.0) passed.1) only fits passed.2

@@ -6,7 +6,7 @@ use Rattle.clap.specs.declared.error.Error.{Error}
 use Rattle.clap.specs.declared.error.kind.ErrorKind.TheVariants as kind
 use Rattle.clap.specs.declared.builder.arg.Arg.{Arg}
 use Rattle.clap.specs.declared.builder.command.Command.{Command}
-use Rattle.ft_words.specs.Commands.{app_of_verb, bare_app, copy_app, file_rule, gen_app, number_rule, option_rule, step_app, within}
+use Rattle.ft_words.specs.Commands.{app_of_verb, bare_app, copy_app, file_rule, gen_app, number_rule, option_rule, step_app, numbers_within}
 use Rattle.ft_words.specs.declared.verb.Verb.{Verb}
 use Rattle.ft_words.specs.declared.verb.Verb.TheVariants as verb
 
@@ -19,14 +19,14 @@ pub copy_built : (p : App) → p ≡ with_rule (with_rule (bare_app (codes "copy
 unfolding copy_app
 copy_built p e = e
 
-pub gen_built : (p : App) → p ≡ with_rule (with_rule (bare_app (codes "gen")) (number_rule (codes "number") (within 0 4294967295))) (file_rule (codes "out")) → p ≡ gen_app
+pub gen_built : (p : App) → p ≡ with_rule (with_rule (bare_app (codes "gen")) (number_rule (codes "number") (numbers_within 0 4294967295))) (file_rule (codes "out")) → p ≡ gen_app
 unfolding gen_app
 gen_built p e = e
 
 pub step_built : (p : App) → p ≡ with_rule (with_rule (with_rule (with_rule (with_rule (bare_app (codes "step"))
     (file_rule (codes "song"))) (file_rule (codes "wav"))) (file_rule (codes "ledger")))
-    (option_rule (codes "rate") (codes "44100") (within 8000 48000)))
-    (option_rule (codes "seconds") (codes "60") (within 1 1200)) → p ≡ step_app
+    (option_rule (codes "rate") (codes "44100") (numbers_within 8000 48000)))
+    (option_rule (codes "seconds") (codes "60") (numbers_within 1 1200)) → p ≡ step_app
 unfolding step_app
 step_built p e = e
 

@@ -1,12 +1,12 @@
 -- The first word and the others.
-use Rattle.std.proofs.Common.{ap, ◌∙◌, ◌≡◌, ◌≢◌, List, [], Some, Result, IfOk, map, String, string_bytes, Global, sym, subst}
+use Rattle.std.proofs.Common.{ap, ◌∙◌, ◌≡◌, ◌≢◌, List, [], Some, None, Result, IfOk, map, String, string_bytes, Global, sym, subst}
 use Rattle.std.specs.List.{IsFirstAndRest}
 use Rattle.std.proofs.lemmas.Result.{IfOk-weaker}
 use Rattle.clap.specs.Words.{Text, fault_of}
 use Rattle.ft_words.specs.Answer.{AsksOf, IsAskedBy}
 use Rattle.ft_words.specs.Commands.{app_of_verb}
 use Rattle.ft_words.specs.Files.{AreNamedBy, NamesOf}
-use Rattle.ft_words.specs.Refused.{HasFault, IsRefused, verb_named}
+use Rattle.ft_words.specs.Refused.{FindsFault, IsNoCommand, IsRefused, verb_named}
 use Rattle.ft_words.specs.declared.answer.Asked.{Asked}
 use Rattle.ft_words.specs.declared.answer.Asked.TheVariants as ask
 use Rattle.ft_words.specs.declared.fault.NamesFault.{NamesFault}
@@ -34,11 +34,16 @@ module _ (words others : List (String Global)) (first : String Global) (shown : 
     (split : IsFirstAndRest words first others) (same : shown ≡ string_bytes first) (named : verb_named shown ≡ Some v) where
   pub refused_by : fault_of (app_of_verb v) (map string_bytes others) ≢ [] → IsRefused (map string_bytes words)
   refused_by fault = subst IsRefused (sym (ap (map string_bytes) split.0))
-      (subst (λ o. HasFault o (map string_bytes others)) (sym named ∙ ap verb_named same) fault)
+      (subst (λ o. FindsFault o (map string_bytes others)) (sym named ∙ ap verb_named same) fault)
 
   fault_by : IsRefused (map string_bytes words) → fault_of (app_of_verb v) (map string_bytes others) ≢ []
-  fault_by h = subst (λ o. HasFault o (map string_bytes others)) (ap verb_named (sym same) ∙ named)
+  fault_by h = subst (λ o. FindsFault o (map string_bytes others)) (ap verb_named (sym same) ∙ named)
       (subst IsRefused (ap (map string_bytes) split.0) h)
+
+  pub some_command : IsNoCommand (map string_bytes words) → ⊥
+  some_command none =
+      let at : verb_named (string_bytes first) ≡ None = subst IsNoCommand (ap (map string_bytes) split.0) none in
+      let both : Some v ≡ None = sym named ∙ ap verb_named same ∙ at in absurd cc
 
   pub named_by : (r : Result FileNames NamesFault) → IfOk r (NamesOf (Some v) (map string_bytes others)) → IfOk r (AreNamedBy (map string_bytes words))
   named_by r h = IfOk-weaker r _ _ (λ files x. subst (λ ws. AreNamedBy ws files) (sym (ap (map string_bytes) split.0))

@@ -11,14 +11,15 @@ use Rattle.ft_words.specs.declared.verb.Verb.{Verb}
 use Rattle.ft_words.specs.declared.verb.Verb.TheVariants as verb
 
 -- the text is a numeral in decimal digits, where a plus may stand first, and n is its number
-abbrev pub Spells : Text → ℕ → Type 0
-Spells t n = IsNumeral 10 (without_leading_plus t) × (n ≡ digits_value 10 (without_leading_plus t))
+abbrev pub IsNumeralOf : Text → ℕ → Type 0
+IsNumeralOf t n = IsNumeral 10 (without_leading_plus t)
+    × (n ≡ digits_value 10 (without_leading_plus t))
 
 -- n is the number of the value of an argument in `clap`'s matches: `one_of` is the text that `clap`
 -- hands to the reader of numbers
 abbrev pub IsNumberOf : App → List Text → Text → ℕ → Type 0
 IsNumberOf app others id n =
-    (t : Text) × (one_of id (matches_of app others) ≡ Some t) × Spells t n
+    (t : Text) × (one_of id (matches_of app others) ≡ Some t) × IsNumeralOf t n
 
 -- `step`, with the rate and the length that the words name
 pub record AsksStep (others : List Text) (step : Step) : Type 0 where

@@ -27,8 +27,8 @@ option_rule id default parser = record (new_rule id) {
 }
 
 -- numbers from `low` to `high`
-abbrev pub within : ℕ → ℕ → ValueParser
-within low high = vp.Signed (pos low) (pos high)
+abbrev pub numbers_within : ℕ → ℕ → ValueParser
+numbers_within low high = vp.Signed (pos low) (pos high)
 
 -- a command without arguments, whose words leave out the program's name
 abbrev pub bare_app : Text → App
@@ -39,8 +39,8 @@ unfoldable pub step_app : App
 step_app =
     with_rule (with_rule (with_rule (with_rule (with_rule (bare_app (codes "step"))
     (file_rule (codes "song"))) (file_rule (codes "wav"))) (file_rule (codes "ledger")))
-    (option_rule (codes "rate") (codes "44100") (within 8000 48000)))
-    (option_rule (codes "seconds") (codes "60") (within 1 1200))
+    (option_rule (codes "rate") (codes "44100") (numbers_within 8000 48000)))
+    (option_rule (codes "seconds") (codes "60") (numbers_within 1 1200))
 
 -- `copy SONG OUT`
 unfoldable pub copy_app : App
@@ -50,7 +50,7 @@ copy_app = with_rule (with_rule (bare_app (codes "copy"))
 -- `gen NUMBER OUT`
 unfoldable pub gen_app : App
 gen_app = with_rule (with_rule (bare_app (codes "gen"))
-    (number_rule (codes "number") (within 0 4294967295))) (file_rule (codes "out"))
+    (number_rule (codes "number") (numbers_within 0 4294967295))) (file_rule (codes "out"))
 
 -- the shape of each command
 abbrev pub app_of_verb : Verb → App

@@ -16,14 +16,19 @@ verb_named word = if bytes_eq word (codes "step") then Some verb.Step
     else (if bytes_eq word (codes "gen") then Some verb.Gen else None))
 
 -- `clap` finds fault with the words behind the command
-abbrev pub HasFault : Option Verb → List Text → Type 0
-HasFault None others = ⊤
-HasFault (Some verb) others = fault_of (app_of_verb verb) others ≢ []
+abbrev pub FindsFault : Option Verb → List Text → Type 0
+FindsFault None others = ⊤
+FindsFault (Some verb) others = fault_of (app_of_verb verb) others ≢ []
 
 -- the first word is no command, or `clap` finds fault with the others
 abbrev pub IsRefused : List Text → Type 0
 IsRefused [] = ⊤
-IsRefused (word ∷ others) = HasFault (verb_named word) others
+IsRefused (word ∷ others) = FindsFault (verb_named word) others
+
+-- the first word is no command, or there is none
+abbrev pub IsNoCommand : List Text → Type 0
+IsNoCommand [] = ⊤
+IsNoCommand (word ∷ others) = verb_named word ≡ None
 
 -- what `clap` gives of words without fault
 abbrev pub AreMatches : App → List Text → ArgMatches → Type 0

@@ -17,5 +17,8 @@ pub enum Asked {
     /// A song read and written again.
     Copy,
     /// The song of a number.
-    Gen { number: u32 },
+    Gen {
+        /// 0 to 4,294,967,295.
+        number: u32,
+    },
 }

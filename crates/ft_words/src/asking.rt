@@ -4,7 +4,7 @@ ghost use Rattle.std.specs.Prelude.{◌≡◌, ◌≢◌, [], Some, Err, IfOk, m
 ghost use Rattle.clap.specs.Words.{fault_of};
 ghost use Rattle.ft_words.specs.Answer.{AsksGen, AsksOf, AsksStep, IsAskedBy};
 ghost use Rattle.ft_words.specs.Commands.{app_of_verb, gen_app, step_app};
-ghost use Rattle.ft_words.specs.Refused.{IsRefused};
+ghost use Rattle.ft_words.specs.Refused.{IsNoCommand, IsRefused};
 
 use crate::answer::{Asked, Step};
 use crate::fault::NamesFault;
@@ -15,7 +15,8 @@ use std::alloc::Global;
 /// The rate and the seconds of `step`.
 fn step_asked(alloc: Global, words: &[String]) -> Result<Step, NamesFault>
     ensures asked { IfOk result (AsksStep (map string_bytes words.now)) }
-    ensures usage { result ≡ Err NamesFault.Usage → fault_of step_app (map string_bytes words.now) ≢ [] }
+    ensures usage { result ≡ Err NamesFault.Usage
+        → fault_of step_app (map string_bytes words.now) ≢ [] }
 {
     let matches = parsed(alloc, Verb::Step, words)?;
     let Some(rate) = matches.get_one::<u32>("rate") else {
@@ -30,7 +31,8 @@ fn step_asked(alloc: Global, words: &[String]) -> Result<Step, NamesFault>
 /// The number of `gen`.
 fn gen_asked(alloc: Global, words: &[String]) -> Result<u32, NamesFault>
     ensures asked { IfOk result (AsksGen (map string_bytes words.now)) }
-    ensures usage { result ≡ Err NamesFault.Usage → fault_of gen_app (map string_bytes words.now) ≢ [] }
+    ensures usage { result ≡ Err NamesFault.Usage
+        → fault_of gen_app (map string_bytes words.now) ≢ [] }
 {
     let matches = parsed(alloc, Verb::Gen, words)?;
     let Some(number) = matches.get_one::<u32>("number") else {
@@ -42,7 +44,8 @@ fn gen_asked(alloc: Global, words: &[String]) -> Result<u32, NamesFault>
 /// What a command is asked for, by the words behind it.
 fn asked_of(alloc: Global, verb: Verb, words: &[String]) -> Result<Asked, NamesFault>
     ensures asked { IfOk result (AsksOf (Some verb) (map string_bytes words.now)) }
-    ensures usage { result ≡ Err NamesFault.Usage → fault_of (app_of_verb verb) (map string_bytes words.now) ≢ [] }
+    ensures usage { result ≡ Err NamesFault.Usage
+        → fault_of (app_of_verb verb) (map string_bytes words.now) ≢ [] }
 {
     match verb {
         Verb::Step => Ok(Asked::Step(step_asked(alloc, words)?)),
@@ -57,11 +60,13 @@ fn asked_of(alloc: Global, verb: Verb, words: &[String]) -> Result<Asked, NamesF
 }
 
 /// What the words ask for. `Usage` comes only where the words are refused, and nothing is asked
-/// for where they are.
+/// for where they are. Where the first word is no command, that is the answer, and no memory is
+/// taken.
 pub fn asked(alloc: Global, words: &[String]) -> Result<Asked, NamesFault>
     ensures asked { IfOk result (IsAskedBy (map string_bytes words.now)) }
     ensures refused { IsRefused (map string_bytes words.now) → IfOk result (λ _. ⊥) }
     ensures usage { result ≡ Err NamesFault.Usage → IsRefused (map string_bytes words.now) }
+    ensures no_command { IsNoCommand (map string_bytes words.now) → result ≡ Err NamesFault.Usage }
 {
     let Some((first, others)) = words.split_first() else {
         return Err(NamesFault::Usage);

@@ -4,7 +4,7 @@ ghost use Rattle.std.specs.Prelude.{◌≡◌, ◌≢◌, [], ◌∷◌, Some, E
 ghost use Rattle.clap.specs.Words.{fault_of, first_value, found_of};
 ghost use Rattle.ft_words.specs.Commands.{app_of_verb, copy_app, gen_app, step_app};
 ghost use Rattle.ft_words.specs.Files.{AreNamedBy, NamesCopy, NamesGen, NamesOf, NamesStep};
-ghost use Rattle.ft_words.specs.Refused.{IsRefused};
+ghost use Rattle.ft_words.specs.Refused.{IsNoCommand, IsRefused};
 
 use crate::fault::NamesFault;
 use crate::parsing::parsed;
@@ -19,9 +19,13 @@ pub type Texts = Items<String>;
 /// The files of a command. A list is empty where the command has no such file.
 #[derive(Debug, Drop)]
 pub struct FileNames {
+    /// The song to be read: one name, or none for `gen`.
     pub song: Texts,
+    /// What is written, a WAV file or a song: one name.
     pub wav: Texts,
+    /// The ledger of `step`: one name, or none.
     pub ledger: Texts,
+    /// Scripts of edits. No command takes one yet.
     pub scripts: Texts,
 }
 
@@ -38,7 +42,8 @@ fn list_of(alloc: Global, text: &str) -> Result<Texts, NamesFault>
 /// The files of `step`.
 fn step_names(alloc: Global, words: &[String]) -> Result<FileNames, NamesFault>
     ensures files { IfOk result (NamesStep (map string_bytes words.now)) }
-    ensures usage { result ≡ Err NamesFault.Usage → fault_of step_app (map string_bytes words.now) ≢ [] }
+    ensures usage { result ≡ Err NamesFault.Usage
+        → fault_of step_app (map string_bytes words.now) ≢ [] }
 {
     let matches = parsed(alloc, Verb::Step, words)?;
     let Some(song) = matches.get_str("song") else {
@@ -61,7 +66,8 @@ fn step_names(alloc: Global, words: &[String]) -> Result<FileNames, NamesFault>
 /// The files of `copy`.
 fn copy_names(alloc: Global, words: &[String]) -> Result<FileNames, NamesFault>
     ensures files { IfOk result (NamesCopy (map string_bytes words.now)) }
-    ensures usage { result ≡ Err NamesFault.Usage → fault_of copy_app (map string_bytes words.now) ≢ [] }
+    ensures usage { result ≡ Err NamesFault.Usage
+        → fault_of copy_app (map string_bytes words.now) ≢ [] }
 {
     let matches = parsed(alloc, Verb::Copy, words)?;
     let Some(song) = matches.get_str("song") else {
@@ -81,7 +87,8 @@ fn copy_names(alloc: Global, words: &[String]) -> Result<FileNames, NamesFault>
 /// The files of `gen`.
 fn gen_names(alloc: Global, words: &[String]) -> Result<FileNames, NamesFault>
     ensures files { IfOk result (NamesGen (map string_bytes words.now)) }
-    ensures usage { result ≡ Err NamesFault.Usage → fault_of gen_app (map string_bytes words.now) ≢ [] }
+    ensures usage { result ≡ Err NamesFault.Usage
+        → fault_of gen_app (map string_bytes words.now) ≢ [] }
 {
     let matches = parsed(alloc, Verb::Gen, words)?;
     let Some(out) = matches.get_str("out") else {
@@ -98,7 +105,8 @@ fn gen_names(alloc: Global, words: &[String]) -> Result<FileNames, NamesFault>
 /// The files of a command, by the words behind it.
 fn names_of(alloc: Global, verb: Verb, words: &[String]) -> Result<FileNames, NamesFault>
     ensures files { IfOk result (NamesOf (Some verb) (map string_bytes words.now)) }
-    ensures usage { result ≡ Err NamesFault.Usage → fault_of (app_of_verb verb) (map string_bytes words.now) ≢ [] }
+    ensures usage { result ≡ Err NamesFault.Usage
+        → fault_of (app_of_verb verb) (map string_bytes words.now) ≢ [] }
 {
     match verb {
         Verb::Step => step_names(alloc, words),
@@ -108,11 +116,12 @@ fn names_of(alloc: Global, verb: Verb, words: &[String]) -> Result<FileNames, Na
 }
 
 /// The files that the words name. `Usage` comes only where the words are refused, and no files
-/// where they are.
+/// where they are. Where the first word is no command, that is the answer, and no memory is taken.
 pub fn names(alloc: Global, words: &[String]) -> Result<FileNames, NamesFault>
     ensures files { IfOk result (AreNamedBy (map string_bytes words.now)) }
     ensures refused { IsRefused (map string_bytes words.now) → IfOk result (λ _. ⊥) }
     ensures usage { result ≡ Err NamesFault.Usage → IsRefused (map string_bytes words.now) }
+    ensures no_command { IsNoCommand (map string_bytes words.now) → result ≡ Err NamesFault.Usage }
 {
     let Some((first, others)) = words.split_first() else {
         return Err(NamesFault::Usage);

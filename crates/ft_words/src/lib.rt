@@ -18,6 +18,3 @@ pub use asking::asked;
 pub use fault::NamesFault;
 pub use files::{FileNames, Texts, names};
 pub use verb::Verb;
-
-#[cfg(test)]
-mod tests;

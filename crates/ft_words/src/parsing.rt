@@ -17,7 +17,8 @@ pub fn parsed<'a>(
     verb: Verb,
     words: &'a [String],
 ) -> Result<ArgMatches<'a>, NamesFault>
-    ensures exact { MatchResult result (AreMatches (app_of_verb verb) (map string_bytes words.now)) (IsWhy (app_of_verb verb) (map string_bytes words.now)) }
+    ensures exact { MatchResult result (AreMatches (app_of_verb verb) (map string_bytes words.now))
+        (IsWhy (app_of_verb verb) (map string_bytes words.now)) }
     ensures parse { IfOk result (IsParseOf (app_of_verb verb)) }
 {
     let Ok(command) = command_of(alloc, verb) else {

@@ -1,0 +1,5 @@
+pub mod Codes
+pub mod Commands
+pub mod Run
+pub mod Songs
+pub mod Statuses

@@ -1,0 +1,62 @@
+-- What a run writes.
+use Rattle.std.specs.Fmt.{decimal}
+use Rattle.std.specs.Prelude.{◌≡◌, ◌++◌, codes, length, ℕ, ◌*◌, List, Option, IfSome}
+use Rattle.ft_types.specs.declared.module.Module.{Module}
+use Rattle.ft_types.specs.Valid.{IsValid}
+use Rattle.ft_types.specs.Plain.{IsPlain}
+use Rattle.ft_types.specs.Blocks.{blocks_of}
+use Rattle.ft_format.specs.Canon.{canon}
+use Rattle.ft_format.specs.Spelling.{Spells}
+use Rattle.ft_replay.specs.Replay.{sound_of_song}
+use Rattle.ft_out.specs.Wav.{wav_bytes}
+use Rattle.ft_xmwrite.specs.Generate.{generated}
+use Rattle.ft_words.specs.declared.answer.Step.{Step}
+use Rattle.ft_words.specs.declared.answer.Asked.{Asked}
+use Rattle.ft_words.specs.declared.answer.Asked.TheVariants as ask
+use Rattle.ft_words.specs.Answer.{IsAskedBy}
+
+-- the frames of so many seconds
+abbrev pub frames_asked : Step → ℕ
+frames_asked step = step.rate * step.seconds
+
+-- the WAV file of a song: its replay from the beginning, for so many frames
+unfoldable pub wav_of : Module → Step → List ℕ
+wav_of song step = wav_bytes step.rate (frames_asked step) (sound_of_song song (frames_asked step) step.rate)
+
+-- the WAV file of the plain song that the source held, where that is told
+pub record IsOutput (step : Step) (held : Option (List ℕ)) (bytes : List ℕ) : Type 0 where
+  pub song : Module
+  pub valid : IsValid song
+  pub plain : IsPlain song
+  pub told : IfSome held (λ file. Spells file song)
+  pub wav : bytes ≡ wav_of song step
+
+-- the canonical bytes of the song that the source held, where that is told
+pub record IsCopy (held : Option (List ℕ)) (bytes : List ℕ) : Type 0 where
+  pub song : Module
+  pub valid : IsValid song
+  pub told : IfSome held (λ file. Spells file song)
+  pub written : bytes ≡ canon song
+
+-- a line of three numbers
+abbrev pub line_of : ℕ → ℕ → ℕ → List ℕ
+line_of number bytes blocks =
+    codes "gen " ++ (decimal number ++ (codes " bytes " ++ (decimal bytes
+    ++ (codes " blocks " ++ (decimal blocks ++ codes "\n")))))
+
+-- the line of a generated song: its number, its bytes and its blocks
+unfoldable pub gen_line : ℕ → List ℕ
+gen_line number = line_of number (length (canon (generated number))) (blocks_of (generated number))
+
+-- what is written of the song that the source held
+abbrev pub IsWritten : Asked → Option (List ℕ) → List ℕ → Type 0
+IsWritten (ask.Step step) held bytes = IsOutput step held bytes
+IsWritten ask.Copy held bytes = IsCopy held bytes
+IsWritten (ask.Gen number) held bytes = bytes ≡ canon (generated number)
+
+-- what the words ask for is written as these bytes
+pub record IsAskedFor (words : List (List ℕ)) (held : Option (List ℕ)) (bytes : List ℕ)
+    : Type 0 where
+  pub asked : Asked
+  pub by : IsAskedBy words asked
+  pub written : IsWritten asked held bytes

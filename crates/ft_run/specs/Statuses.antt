@@ -1,0 +1,98 @@
+-- How runs end: the statuses that a command has, and those that tell a cause.
+use Rattle.std.specs.Prelude.{◌≡◌, ◌≢◌, ℕ}
+use Rattle.ft_outer.specs.Counts.{Rose}
+use Rattle.ft_xmread.specs.declared.fault.XmFault.{XmFault}
+use Rattle.ft_xmread.specs.declared.fault.XmFault.TheVariants as faults
+use Rattle.ft_run.specs.declared.status.SongFault.{SongFault}
+use Rattle.ft_run.specs.declared.status.Status.{Status}
+use Rattle.ft_run.specs.declared.status.Status.TheVariants.{Done, Usage, Song, SongRead, WavWrite, LedgerWrite, NoMemory}
+use Rattle.ft_run.specs.declared.status.SongFault.TheVariants.{Xm, TooBig}
+
+-- ---- what a command can end with
+
+-- `step`, so far
+abbrev pub IsOfStep : Status → Type 0
+IsOfStep Done = Unit {0}
+IsOfStep (Song fault) = Unit {0}
+IsOfStep SongRead = Unit {0}
+IsOfStep WavWrite = Unit {0}
+IsOfStep NoMemory = Unit {0}
+IsOfStep status = ⊥
+
+-- `copy`
+abbrev pub IsOfCopy : Status → Type 0
+IsOfCopy Done = Unit {0}
+IsOfCopy (Song (Xm fault)) = Unit {0}
+IsOfCopy (Song TooBig) = Unit {0}
+IsOfCopy SongRead = Unit {0}
+IsOfCopy WavWrite = Unit {0}
+IsOfCopy NoMemory = Unit {0}
+IsOfCopy status = ⊥
+
+-- `gen`
+abbrev pub IsOfGen : Status → Type 0
+IsOfGen Done = Unit {0}
+IsOfGen WavWrite = Unit {0}
+IsOfGen LedgerWrite = Unit {0}
+IsOfGen NoMemory = Unit {0}
+IsOfGen status = ⊥
+
+-- words that are no command
+abbrev pub RefusesWords : Status → Type 0
+RefusesWords Usage = Unit {0}
+RefusesWords NoMemory = Unit {0}
+RefusesWords status = ⊥
+
+-- ---- how far a run came
+
+-- a song that isn't read to its end, or isn't taken
+abbrev pub IsUnread : Status → Type 0
+IsUnread (Song fault) = Unit {0}
+IsUnread SongRead = Unit {0}
+IsUnread NoMemory = Unit {0}
+IsUnread status = ⊥
+
+-- it ended before it began to write
+abbrev pub IsBeforePlay : Status → Type 0
+IsBeforePlay Usage = Unit {0}
+IsBeforePlay (Song fault) = Unit {0}
+IsBeforePlay SongRead = Unit {0}
+IsBeforePlay NoMemory = Unit {0}
+IsBeforePlay status = ⊥
+
+-- it read its song to the end, and took it
+abbrev pub IsAfterReading : Status → Type 0
+IsAfterReading Done = Unit {0}
+IsAfterReading WavWrite = Unit {0}
+IsAfterReading LedgerWrite = Unit {0}
+IsAfterReading status = ⊥
+
+-- ---- what is told of a song
+
+-- the song is taken, unless it could not be read, or memory was wanting
+abbrev pub IsAccepted : Status → Type 0
+IsAccepted Done = Unit {0}
+IsAccepted WavWrite = Unit {0}
+IsAccepted SongRead = Unit {0}
+IsAccepted NoMemory = Unit {0}
+IsAccepted status = ⊥
+
+-- the song is refused for this, unless it could not be read, or memory was wanting
+abbrev pub RefusesSong : Status → SongFault → Type 0
+RefusesSong (Song found) fault = found ≡ fault
+RefusesSong SongRead fault = Unit {0}
+RefusesSong NoMemory fault = Unit {0}
+RefusesSong status fault = ⊥
+
+-- the status of a run whose song has this fault
+abbrev pub refusal_of : XmFault → Status
+refusal_of faults.NoMemory = NoMemory
+refusal_of fault = Song (Xm fault)
+
+-- ---- counts of the outside
+
+-- the status that tells a fault of the outside comes only where its count rose, and any other
+-- leaves the count
+pub record IsCounted (cause result : Status) (before now : ℕ) : Type 0 where
+  pub told : result ≡ cause → Rose before now
+  pub kept : (result ≢ cause) → now ≡ before

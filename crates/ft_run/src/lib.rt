@@ -1,0 +1,17 @@
+//! Runs of the commands that need no threads, over any source and any sinks.
+//!
+//! `run_plain` is the whole of it: it reads the words, and then plays a song, copies one or makes
+//! one. `Status` says how a run ended, and is printed as the program's line on standard error.
+#![tactic(auto)]
+
+mod copying;
+mod generating;
+mod play;
+mod run;
+mod song;
+mod status;
+mod stepping;
+
+pub use run::run_plain;
+pub use song::MOST_BYTES;
+pub use status::{SongFault, Status};

@@ -1,0 +1,21 @@
+//! Tests of command lines and of runs over sources and sinks in memory.
+#![tactic(auto)]
+
+#[cfg(test)]
+mod copying;
+#[cfg(test)]
+mod generating;
+#[cfg(test)]
+mod heard;
+#[cfg(test)]
+mod lines;
+#[cfg(test)]
+mod most;
+#[cfg(test)]
+mod outside;
+#[cfg(test)]
+mod refusals;
+#[cfg(test)]
+mod runs;
+#[cfg(test)]
+mod words;
