@@ -6,7 +6,7 @@ here=$(cd "$(dirname "$0")/.." && pwd)
 work=$(mktemp -d)
 trap 'rm -rf "$work"' EXIT
 "$here/xmstudio" >/dev/null 2>&1
-program=$here/crates/ft_studio/out/ft_studio
+program=$(ls -t "$here"/out/xmstudio-* | head -n 1)
 
 # count WORDS..: the instructions of a run
 count() {

@@ -8,6 +8,8 @@ trap 'rm -rf "$work"' EXIT
 cd "$work" || exit 1
 failed=0
 
+usage='xmstudio: usage: live or step SONG WAV LEDGER [SCRIPT]... [--rate=N] [--seconds=N] [--segments=N]; copy SONG OUT; gen NUMBER OUT'
+
 # expect STATUS LINE WORDS..: runs the program; LINE is all of standard error, or - for any usage line
 expect() {
     local want=$1 line=$2
@@ -18,7 +20,7 @@ expect() {
     [ "$got" = "$want" ] || { echo "$*: status $got, not $want"; failed=1; }
     [ -s stdout ] && { echo "$*: standard output isn't empty"; failed=1; }
     if [ "$line" = - ]; then
-        grep -q '^xmstudio: usage: live or step SONG WAV LEDGER' stderr || { echo "$*: no usage line"; failed=1; }
+        [ "$(cat stderr)" = "$usage" ] || { echo "$*: no usage line"; failed=1; }
     elif [ "$(cat stderr)" != "$line" ]; then
         echo "$*: standard error is: $(cat stderr)"
         failed=1
@@ -39,12 +41,22 @@ wav() {
 
 "$here/xmstudio" >/dev/null 2>&1 # builds the program where it is missing
 
-silence=$here/examples/silence.xm
+# songs are read from copies, which a program with its names changed over would overwrite
+cp -r "$here/examples" songs
+silence=songs/silence.xm
 expect 0 '' step "$silence" out.wav out.ledger --rate=8000 --seconds=1
 wav 32044
 absent out.ledger
 expect 0 '' step "$silence" out.wav out.ledger --seconds=2
 wav 352844
+# options as two words each, and eight words in all
+expect 0 '' step "$silence" out.wav out.ledger --rate 8000 --seconds 1
+wav 32044
+expect 0 '' step --seconds 2 "$silence" --rate 8000 out.wav out.ledger
+wav 64044
+absent out.ledger
+expect 2 - step "$silence" out.wav out.ledger --rate 8000 --seconds
+absent out.wav
 
 expect 2 -
 expect 2 - --help
@@ -76,7 +88,7 @@ expect 5 'xmstudio: output could not be written' step "$silence" /dev/full out.l
 
 # copy and gen
 for song in silence first scale; do
-    expect 0 '' copy "$here/examples/$song.xm" copy.xm
+    expect 0 '' copy "songs/$song.xm" copy.xm
     cmp "$here/examples/$song.xm" copy.xm || { echo "$song.xm is copied otherwise"; failed=1; }
 done
 expect 4 'xmstudio: song could not be read' copy missing.xm out.wav
@@ -92,6 +104,11 @@ expect 3 'xmstudio: song refused: not yet' step seven.xm out.wav out.ledger
 [ "$(cat stderr)" = 'xmstudio: ledger could not be written' ] || { echo "standard error is: $(cat stderr)"; failed=1; }
 expect 2 - gen seven out.wav
 absent out.wav
+
+# no song was written to
+for song in "$here"/examples/*.xm; do
+    cmp "$song" "songs/$(basename "$song")" || failed=1
+done
 
 [ "$failed" = 0 ] && echo "the program on real files: all as documented"
 exit "$failed"

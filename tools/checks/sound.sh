@@ -6,6 +6,7 @@ here=$(cd "$(dirname "$0")/../.." && pwd)
 work=$(mktemp -d)
 trap 'rm -rf "$work"' EXIT
 failed=0
+cp -r "$here/examples" "$work/songs"
 "$here/xmstudio" >/dev/null 2>&1 # builds the program where it is missing
 
 # compare SONG RATE SECONDS
@@ -16,9 +17,9 @@ compare() {
 }
 
 for song in silence first scale; do
-    compare "$here/examples/$song.xm" 44100 2
+    compare "$work/songs/$song.xm" 44100 2
 done
-compare "$here/examples/first.xm" 8363 1
+compare "$work/songs/first.xm" 8363 1
 python3 "$here/tools/varied_songs.py" "$work" 12
 rate=8000
 for song in "$work"/varied*.xm; do
