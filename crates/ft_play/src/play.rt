@@ -16,15 +16,16 @@ use ft_replay::{Place, SongState};
 use ft_tick::tick_state;
 use ft_types::{SongView, Voice};
 
-/// Writes the sound of the voices of a tick over the first frames of `out`, moves the voices on, and
-/// ends those that are over.
+/// Writes the sound of the voices of a tick over the first frames of `out`, moves the voices on,
+/// and ends those that are over.
 fn mix_front<V: SongView>(
     view: &mut V,
     voices: &mut ArrayVec<Voice, 32>,
     frames: u32,
     out: &mut [i16],
 )
-    requires voices { All (IsMixed (V.keeps view.old) (length (V.holds view.old))) voices.old.items }
+    requires voices {
+        All (IsMixed (V.keeps view.old) (length (V.holds view.old))) voices.old.items }
     requires few { frames ≤ 3750 }
     requires room { 2 * frames ≤ length out.old }
     ensures sound { (w : V.World) → V.shows view.new w → V.shows view.old w
@@ -39,7 +40,8 @@ fn mix_front<V: SongView>(
         → IsAscending low high voices.new.items }
     ensures kept { (low high : ℕ) → IsAscending low high voices.old.items
         → calls.AreVoicesKept (V.keeps view.new) voices.new.items }
-    ensures holds { V.holds view.new ≡ sound.holds_after frames voices.old.items (V.holds view.old) }
+    ensures holds { V.holds view.new
+        ≡ sound.holds_after frames voices.old.items (V.holds view.old) }
     ensures wide { length (V.holds view.new) ≡ length (V.holds view.old) }
     ensures work { (V.work view.old ≤ V.work view.new) × (V.work view.new ≤ V.work view.old
         + length voices.old.items * (1 + 2 * frame_bound * frames)) }
@@ -51,9 +53,9 @@ fn mix_front<V: SongView>(
 /// Plays the next tick: its frames, left and right in turn, are the first numbers of `out`, and the
 /// rest of `out` stays as it was. A tick has 1 to 3,750 frames.
 ///
-/// The rate is 8,000 to 48,000 frames a second. The view has the song's channels, and keeps the sample
-/// of each voice on its channel. It does so after the tick; and where it kept one exactly where there
-/// was a voice, it does so again.
+/// The rate is 8,000 to 48,000 frames a second. The view has the song's channels, and keeps the
+/// sample of each voice on its channel. It does so after the tick; and where it kept one exactly
+/// where there was a voice, it does so again.
 pub fn play_tick<V: SongView>(
     view: &mut V,
     song: &mut SongState,

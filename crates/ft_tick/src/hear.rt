@@ -77,13 +77,14 @@ fn hear_one<V: SongView>(
     linear: bool,
     rate: u32,
 )
-    requires linear { (w : V.World) → V.shows view.old w → linear ≡ (V.shown view.old w).song.linear }
+    requires linear { (w : V.World) → V.shows view.old w
+        → linear ≡ (V.shown view.old w).song.linear }
     requires range { (c : ℕ) × IsChannelInRange c channel.old }
     requires global { control.now.global ≤ 64 }
     requires rate { 8000 ≤ rate }
     ensures shows { calls.ShowsOn V.shows V.shown view.old view.new }
-    ensures value { (w : V.World) → V.shows view.new w
-        → channel.new ≡ hearing.heard_channel rate control.now (V.shown view.old w).song channel.old }
+    ensures value { (w : V.World) → V.shows view.new w → channel.new
+        ≡ hearing.heard_channel rate control.now (V.shown view.old w).song channel.old }
     ensures range { (c : ℕ) → IsChannelInRange c channel.old → IsChannelInRange c channel.new }
     ensures kept { (c : ℕ) → calls.IsKept (V.keeps view.old) c channel.old.voice
         → calls.IsKept (V.keeps view.new) c channel.new.voice }
@@ -111,7 +112,8 @@ pub fn hear<V: SongView>(
     linear: bool,
     rate: u32,
 )
-    requires linear { (w : V.World) → V.shows view.old w → linear ≡ (V.shown view.old w).song.linear }
+    requires linear { (w : V.World) → V.shows view.old w
+        → linear ≡ (V.shown view.old w).song.linear }
     requires range { AreInRange channels.old }
     requires global { control.now.global ≤ 64 }
     requires rate { 8000 ≤ rate }

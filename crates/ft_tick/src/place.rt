@@ -83,7 +83,8 @@ fn bring_within_orders(channels: &mut [Channel], control: &mut Control, head: So
 fn next_order(position: u16, head: SongHead) -> u16
     requires head { IsValidSongHead head }
     requires position { position < head.length }
-    ensures value { (song : Module) → head ≡ song_head_of song → result ≡ tick.next_order song position }
+    ensures value { (song : Module) → head ≡ song_head_of song
+        → result ≡ tick.next_order song position }
     ensures within { result < head.length }
 {
     if position + 1 < head.length {
@@ -100,12 +101,14 @@ fn bring_within_rows<V: SongView>(
     head: SongHead,
 )
     requires valid { IsValidSongHead head }
-    requires head { (w : V.World) → V.shows view.old w → head ≡ song_head_of (V.shown view.old w).song }
+    requires head { (w : V.World) → V.shows view.old w
+        → head ≡ song_head_of (V.shown view.old w).song }
     requires within { control.old.pos < head.length }
     ensures shows { calls.ShowsOn V.shows V.shown view.old view.new }
     ensures state { (w : V.World) → V.shows view.new w
         → state_of control.new channels.new (V.shown view.old w)
-        ≡ tick.within_rows (V.shown view.old w).song (state_of control.old channels.old (V.shown view.old w)) }
+        ≡ tick.within_rows (V.shown view.old w).song
+        (state_of control.old channels.old (V.shown view.old w)) }
     ensures within_orders { control.new.pos < head.length }
     ensures row { control.new.row ≤ 255 }
     ensures playing { (n : ℕ) → IsTimed n control.old → IsTimed n control.new }
@@ -135,12 +138,14 @@ pub fn find_place<V: SongView>(
     head: SongHead,
 )
     requires valid { IsValidSongHead head }
-    requires head { (w : V.World) → V.shows view.old w → head ≡ song_head_of (V.shown view.old w).song }
+    requires head { (w : V.World) → V.shows view.old w
+        → head ≡ song_head_of (V.shown view.old w).song }
     requires range { IsInRange control.old channels.old }
     ensures shows { calls.ShowsOn V.shows V.shown view.old view.new }
     ensures state { (w : V.World) → V.shows view.new w
         → state_of control.new channels.new (V.shown view.old w)
-        ≡ tick.at_place (V.shown view.old w).song (state_of control.old channels.old (V.shown view.old w)) }
+        ≡ tick.at_place (V.shown view.old w).song
+        (state_of control.old channels.old (V.shown view.old w)) }
     ensures within { control.new.tick ≡ 0 → control.new.pos < head.length }
     ensures playing { IsPlaying (length channels.new) control.new }
     ensures range { AreInRange channels.new }

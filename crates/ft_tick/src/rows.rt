@@ -43,20 +43,22 @@ fn start_one<V: SongView>(
 )
     requires channel { c < length channels.old }
     requires wide { length channels.old ≤ length (V.holds view.old) }
-    requires head { (w : V.World) → V.shows view.old w → head ≡ song_head_of (V.shown view.old w).song }
+    requires head { (w : V.World) → V.shows view.old w
+        → head ≡ song_head_of (V.shown view.old w).song }
     requires within { control.old.pos < head.length }
     requires range { AreInRange channels.old }
     requires playing { IsPlaying (length channels.old) control.old }
     requires first { control.old.tick ≡ 0 }
     ensures made { calls.Makes V.shows V.shown
-        (λ version song state. tick.one_turn (tick.first_turn version song) c state) view.old view.new
-        (state_of control.old channels.old) (state_of control.new channels.new) }
-    ensures keeps { calls.KeepsForAll (V.keeps view.old) (V.keeps view.new) (V.holds view.old) (V.holds view.new)
-        channels.old channels.new }
+        (λ version song state. tick.one_turn (tick.first_turn version song) c state)
+        view.old view.new (state_of control.old channels.old) (state_of control.new channels.new) }
+    ensures keeps { calls.KeepsForAll (V.keeps view.old) (V.keeps view.new)
+        (V.holds view.old) (V.holds view.new) channels.old channels.new }
     ensures range { AreInRange channels.new }
     ensures playing { IsPlaying (length channels.new) control.new }
     ensures place { (control.new.pos ≡ control.old.pos) × (control.new.tick ≡ control.old.tick) }
-    ensures work { (V.work view.old ≤ V.work view.new) × (V.work view.new ≤ V.work view.old + turn_bound) }
+    ensures work { (V.work view.old ≤ V.work view.new)
+        × (V.work view.new ≤ V.work view.old + turn_bound) }
     ensures same { V.same view.old view.new }
 {
     let pattern = view.order(control.pos);
@@ -75,16 +77,17 @@ fn start_all<V: SongView>(
 )
     requires few { length channels.old ≤ 32 }
     requires wide { length channels.old ≤ length (V.holds view.old) }
-    requires head { (w : V.World) → V.shows view.old w → head ≡ song_head_of (V.shown view.old w).song }
+    requires head { (w : V.World) → V.shows view.old w
+        → head ≡ song_head_of (V.shown view.old w).song }
     requires within { control.old.pos < head.length }
     requires range { AreInRange channels.old }
     requires playing { IsPlaying (length channels.old) control.old }
     requires first { control.old.tick ≡ 0 }
     ensures made { calls.Makes V.shows V.shown
-        (λ version song state. tick.in_turn (tick.first_turn version song) (length channels.old) state) view.old view.new
-        (state_of control.old channels.old) (state_of control.new channels.new) }
-    ensures keeps { calls.KeepsForAll (V.keeps view.old) (V.keeps view.new) (V.holds view.old) (V.holds view.new)
-        channels.old channels.new }
+        (λ version song. tick.in_turn (tick.first_turn version song) (length channels.old))
+        view.old view.new (state_of control.old channels.old) (state_of control.new channels.new) }
+    ensures keeps { calls.KeepsForAll (V.keeps view.old) (V.keeps view.new)
+        (V.holds view.old) (V.holds view.new) channels.old channels.new }
     ensures range { AreInRange channels.new }
     ensures playing { IsPlaying (length channels.new) control.new }
     ensures work { (V.work view.old ≤ V.work view.new)
@@ -103,13 +106,14 @@ fn go_on_one<V: SongView>(view: &mut V, channels: &mut [Channel], control: &mut 
     requires range { AreInRange channels.old }
     requires playing { IsPlaying (length channels.old) control.old }
     ensures made { calls.Makes V.shows V.shown
-        (λ version song state. tick.one_turn (tick.later_turn version song) c state) view.old view.new
-        (state_of control.old channels.old) (state_of control.new channels.new) }
-    ensures keeps { calls.KeepsForAll (V.keeps view.old) (V.keeps view.new) (V.holds view.old) (V.holds view.new)
-        channels.old channels.new }
+        (λ version song state. tick.one_turn (tick.later_turn version song) c state)
+        view.old view.new (state_of control.old channels.old) (state_of control.new channels.new) }
+    ensures keeps { calls.KeepsForAll (V.keeps view.old) (V.keeps view.new)
+        (V.holds view.old) (V.holds view.new) channels.old channels.new }
     ensures range { AreInRange channels.new }
     ensures playing { IsPlaying (length channels.new) control.new }
-    ensures work { (V.work view.old ≤ V.work view.new) × (V.work view.new ≤ V.work view.old + turn_bound) }
+    ensures work { (V.work view.old ≤ V.work view.new)
+        × (V.work view.new ≤ V.work view.old + turn_bound) }
     ensures same { V.same view.old view.new }
 {
     let u = control.tick % u16::from(control.tempo);
@@ -123,10 +127,10 @@ fn go_on_all<V: SongView>(view: &mut V, channels: &mut [Channel], control: &mut 
     requires range { AreInRange channels.old }
     requires playing { IsPlaying (length channels.old) control.old }
     ensures made { calls.Makes V.shows V.shown
-        (λ version song state. tick.in_turn (tick.later_turn version song) (length channels.old) state) view.old view.new
-        (state_of control.old channels.old) (state_of control.new channels.new) }
-    ensures keeps { calls.KeepsForAll (V.keeps view.old) (V.keeps view.new) (V.holds view.old) (V.holds view.new)
-        channels.old channels.new }
+        (λ version song. tick.in_turn (tick.later_turn version song) (length channels.old))
+        view.old view.new (state_of control.old channels.old) (state_of control.new channels.new) }
+    ensures keeps { calls.KeepsForAll (V.keeps view.old) (V.keeps view.new)
+        (V.holds view.old) (V.holds view.new) channels.old channels.new }
     ensures range { AreInRange channels.new }
     ensures playing { IsPlaying (length channels.new) control.new }
     ensures work { (V.work view.old ≤ V.work view.new)
@@ -148,14 +152,15 @@ pub fn do_rows<V: SongView>(
 )
     requires few { length channels.old ≤ 32 }
     requires wide { length channels.old ≤ length (V.holds view.old) }
-    requires head { (w : V.World) → V.shows view.old w → head ≡ song_head_of (V.shown view.old w).song }
+    requires head { (w : V.World) → V.shows view.old w
+        → head ≡ song_head_of (V.shown view.old w).song }
     requires within { control.old.tick ≡ 0 → control.old.pos < head.length }
     requires range { AreInRange channels.old }
     requires playing { IsPlaying (length channels.old) control.old }
     ensures made { calls.Makes V.shows V.shown tick.after_rows view.old view.new
         (state_of control.old channels.old) (state_of control.new channels.new) }
-    ensures keeps { calls.KeepsForAll (V.keeps view.old) (V.keeps view.new) (V.holds view.old) (V.holds view.new)
-        channels.old channels.new }
+    ensures keeps { calls.KeepsForAll (V.keeps view.old) (V.keeps view.new)
+        (V.holds view.old) (V.holds view.new) channels.old channels.new }
     ensures range { AreInRange channels.new }
     ensures playing { IsPlaying (length channels.new) control.new }
     ensures work { (V.work view.old ≤ V.work view.new)

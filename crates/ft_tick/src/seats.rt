@@ -32,8 +32,10 @@ pub fn seat(channels: &mut [Channel], voices: &[Voice])
 fn take_voice(channels: &mut [Channel], c: usize, on: &mut ArrayVec<Voice, 32>)
     requires channel { c < length channels.old }
     requires room { length on.old.items < 32 }
-    ensures channels { channels.new ≡ set channels.old c (standing.emptied (get_or channels.old c blank_channel)) }
-    ensures on { on.new.items ≡ on.old.items ++ option_to_list (get_or channels.old c blank_channel).voice }
+    ensures channels { channels.new
+        ≡ set channels.old c (standing.emptied (get_or channels.old c blank_channel)) }
+    ensures on { on.new.items
+        ≡ on.old.items ++ option_to_list (get_or channels.old c blank_channel).voice }
     ensures few { length on.new.items ≤ length on.old.items + 1 }
 {
     let Some(voice) = channels[c].voice else {

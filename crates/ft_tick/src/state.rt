@@ -13,7 +13,7 @@ use arrayvec::ArrayVec;
 use ft_replay::{Channel, Control, Place, SongState};
 use ft_types::{SongView, Voice};
 
-/// Makes the state of a tick from the parts of a song, whose voices sit in their channels meanwhile.
+/// Makes the state of a tick from the parts of a song. Its voices sit in their channels meanwhile.
 fn tick_parts<V: SongView>(
     view: &mut V,
     channels: &mut [Channel; 32],
@@ -32,7 +32,8 @@ fn tick_parts<V: SongView>(
         (state_of control.new (seated (take used channels.new) voices.new.items)) }
     ensures place { (w : V.World) → V.shows view.new w → result
         ≡ (tick.tick_state_of (V.shown view.old w).version (V.shown view.old w).song rate
-        (state_of control.old (seated (take used channels.old) voices.old.items) (V.shown view.old w))).place }
+        (state_of control.old (seated (take used channels.old) voices.old.items)
+        (V.shown view.old w))).place }
     ensures keeps { calls.KeepsVoices (V.keeps view.old) (V.keeps view.new)
         (V.holds view.old) (V.holds view.new) voices.old.items voices.new.items }
     ensures range { IsBetweenTicks used control.new channels.new voices.new.items }
@@ -52,17 +53,17 @@ fn tick_parts<V: SongView>(
 /// Makes the state of the next tick, with its voices at their first frame, and says where the tick
 /// is and how many frames it has: 1 to 3,750.
 ///
-/// The rate is 8,000 to 48,000 frames a second. The view has the song's channels. A channel that kept
-/// the sample of its voice does so after the tick, and so does one that kept one exactly where it
-/// had a voice.
+/// The rate is 8,000 to 48,000 frames a second. The view has the song's channels. A channel that
+/// kept the sample of its voice does so after the tick, and so does one that kept one exactly where
+/// it had a voice.
 pub fn tick_state<V: SongView>(view: &mut V, song: &mut SongState, rate: u32) -> Place
     requires wide { song.old.used ≡ length (V.holds view.old) }
     requires low { 8000 ≤ rate }
     requires high { rate ≤ 48000 }
     requires range { IsSongInRange song.old }
     ensures made { calls.Makes V.shows V.shown
-        (λ version a_song state. (tick.tick_state_of version a_song rate state).state) view.old view.new
-        (sequential_of song.old) (sequential_of song.new) }
+        (λ version a_song state. (tick.tick_state_of version a_song rate state).state)
+        view.old view.new (sequential_of song.old) (sequential_of song.new) }
     ensures place { (w : V.World) → V.shows view.new w → result
         ≡ (tick.tick_state_of (V.shown view.old w).version (V.shown view.old w).song rate
         (sequential_of song.old (V.shown view.old w))).place }
