@@ -1,5 +1,5 @@
 -- What is mixed, the sums of both sides, and what mixing leaves.
-use Rattle.std.specs.Prelude.{ℕ, ◌+◌, ◌*◌, ◌^◌, ◌<◌, ◌≤◌, FitsSigned, ◌≡◌, ◌≢◌, ◌≤ℤ◌, ◌-ℤ◌, ℤ, pos, ◌+ℤ◌, true, List, [], ◌∷◌, Option, None, get_or}
+use Rattle.std.specs.Prelude.{ℕ, ◌+◌, ◌*◌, ◌^◌, ◌/◌, ◌<◌, ◌≤◌, FitsSigned, ◌≡◌, ◌≢◌, ◌≤ℤ◌, ◌-ℤ◌, ℤ, pos, ◌+ℤ◌, true, List, [], ◌∷◌, Option, None, get_or}
 use Rattle.std.specs.Int.{w16}
 use Rattle.ft_types.specs.declared.voice.SampleHead.{SampleHead}
 use Rattle.ft_types.specs.declared.voice.Voice.{Voice}
@@ -7,6 +7,7 @@ use Rattle.ft_types.specs.Views.{Owned, Shown}
 use Rattle.ft_replay.specs.Range.{IsVoiceInRange}
 use Rattle.ft_replay.specs.Sound.{place_of, value_in, gained, left_of, right_of, clipped, is_ended}
 use Rattle.ft_mix.specs.declared.pair.Pair.{Pair}
+use Rattle.ft_mix.specs.declared.line.Line.{Line}
 use Rattle.ft_mix.specs.declared.sides.Sides.{Sides}
 
 -- ---- what is asked of a view
@@ -33,6 +34,17 @@ pub record IsPairInRange (pair : Pair) : Type 0 where
   pub at : pair.at ≤ 2 ^ 31
   pub first : FitsSigned w16 pair.first
   pub second : FitsSigned w16 pair.second
+
+-- ---- the line between them
+
+-- a position lies on the line
+pub record IsLineAt (position : ℕ) (line : Line) : Type 0 where
+  pub at : line.pair.at ≡ position / 2 ^ 32
+  pub rise : line.rise ≡ (line.pair.second -ℤ line.pair.first)
+
+pub record IsLineInRange (line : Line) : Type 0 where
+  pub pair : IsPairInRange line.pair
+  pub end : line.end ≤ (line.pair.at + 1) * 2 ^ 32
 
 -- ---- the sums of both sides
 

@@ -52,8 +52,8 @@ fn pair_at<V: SongView>(view: &mut V, channel: u8, head: &SampleHead, at: u32) -
     Pair { at, first, second }
 }
 
-/// The same, where the values of a pair before are at hand: the view is asked only for those that
-/// aren't.
+/// The same, where the values of a pair before are at hand: for the next pair the view is asked only
+/// for its second value.
 pub fn pair_from<V: SongView>(
     view: &mut V,
     channel: u8,
@@ -77,9 +77,6 @@ pub fn pair_from<V: SongView>(
         × (V.work view.new ≤ V.work view.old + 2 * work_of.frame_bound) }
     ensures same { V.same view.old view.new }
 {
-    if at == pair.at {
-        return pair;
-    }
     if at == pair.at + 1 {
         let second = value_of(view, channel, head, at + 1);
         return Pair {

@@ -1,29 +1,40 @@
 //! The frames of a voice.
 
-ghost use Rattle.std.specs.Prelude.{◌≡◌, ◌≤◌, ◌<◌, ◌+◌, ◌*◌, ◌/◌, ◌^◌, ◌≤ℤ◌, ℕ, pos, negsuc, None, Option, All, length, get_or};
-ghost use Rattle.ft_types.specs.declared.voice.SampleHead.{SampleHead};
-ghost use Rattle.ft_types.specs.Views.{Owned};
+ghost use Rattle.std.specs.Prelude.{◌≡◌, ◌≤◌, ◌<◌, ◌+◌, ◌*◌, ◌/◌, ◌^◌, ℕ, None, All, length, get_or};
 ghost use Rattle.ft_types.specs.Work as work_of;
-ghost use Rattle.ft_replay.specs.Sound as sound;
 ghost use Rattle.ft_mix.specs.Mixing as mixing;
 
 use crate::gain::add;
-use crate::line::between;
-use crate::pair::{Pair, pair_from};
+use crate::line::{Line, line_of, value_on};
+use crate::pair::pair_from;
 use crate::sides::Sides;
 use ft_types::{SampleHead, SongView, Voice};
 
-/// The value at a fraction of 2^32 between the values of a pair.
-#[tactic(auto, unfolding(ft_replay::specs::Sound::value_at))]
-fn value_in(pair: Pair, position: u64) -> i32
-    requires range { mixing.IsPairInRange pair }
-    requires at { pair.at ≡ position / 2 ^ 32 }
-    ensures value { (head : SampleHead) (owned : Option Owned) → mixing.IsPair head owned pair
-        → result ≡ sound.value_at head owned position }
-    ensures low { negsuc 32767 ≤ℤ result }
-    ensures high { result ≤ℤ pos 32767 }
+/// The line on which a channel's voice stands at a position: the one at hand up to its end, and then
+/// the next, for which the view is asked.
+fn line_at<V: SongView>(view: &mut V, voice: Voice, line: Line, position: u64) -> Line
+    requires channel { voice.channel < length (V.holds view.old) }
+    requires kept { V.keeps view.old voice.channel voice.head }
+    requires at { position / 2 ^ 32 < 2 ^ 24 }
+    requires line { position < line.end → mixing.IsLineAt position line }
+    requires range { mixing.IsLineInRange line }
+    requires asked { (w : V.World) → V.shows view.old w → line.pair.at < 2 ^ 31
+        → mixing.IsPair voice.head (get_or (V.shown view.old w).kept voice.channel None) line.pair }
+    ensures values { mixing.Tells V.shows V.shown view.old view.new
+        (λ shown. mixing.IsPair voice.head (get_or shown.kept voice.channel None) result.pair) }
+    ensures line { mixing.IsLineAt position result }
+    ensures range { mixing.IsLineInRange result }
+    ensures holds { V.holds view.new ≡ V.holds view.old }
+    ensures keeps { (c : ℕ) (h : SampleHead) → V.keeps view.old c h → V.keeps view.new c h }
+    ensures work { (V.work view.old ≤ V.work view.new)
+        × (V.work view.new ≤ V.work view.old + 2 * work_of.frame_bound) }
+    ensures same { V.same view.old view.new }
 {
-    between(pair.first, pair.second, (position % (1 << 32)) as u32)
+    if position < line.end {
+        return line;
+    }
+    let at = (position >> 32) as u32;
+    line_of(pair_from(view, voice.channel, &voice.head, line.pair, at))
 }
 
 /// Adds what a voice adds to the frames of its tick from `first` on.
@@ -44,11 +55,10 @@ pub fn add_voice<V: SongView>(view: &mut V, voice: Voice, first: u32, sums: &mut
     ensures same { V.same view.old view.new }
 {
     let mut position = voice.pos + u64::from(first) * voice.step;
-    let mut pair = Pair::unasked();
+    let mut line = Line::unasked();
     for sides in sums.iter_mut() {
-        let at = (position >> 32) as u32;
-        pair = pair_from(view, voice.channel, &voice.head, pair, at);
-        add(sides, value_in(pair, position), voice.left, voice.right);
+        line = line_at(view, voice, line, position);
+        add(sides, value_on(line, position), voice.left, voice.right);
         position += voice.step;
     }
 }

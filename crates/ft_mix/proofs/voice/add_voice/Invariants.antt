@@ -10,8 +10,9 @@ invariant-loop-sides g l = record {
   before : (w : g.row.V-World.Denot) → g.V.SongView.shows l.view w → g.V.SongView.shows l.fn.view w × (g.V.SongView.shown l.view w ≡ g.V.SongView.shown l.fn.view w)
       × ((k : ℕ) → k < l.sides-index → get_or l.sums k mixing.silent_sides ≡ mixing.plus (get_or l.fn.sums k mixing.silent_sides)
       (mixing.voice_sides (l.first + k) (get_or (g.V.SongView.shown l.fn.view w).kept l.voice.channel None) l.voice));
-  range : mixing.IsPairInRange l.pair;
-  asked : (w : g.row.V-World.Denot) → g.V.SongView.shows l.view w → l.pair.at < 2 ^ 31 → mixing.IsPair l.voice.head (get_or (g.V.SongView.shown l.view w).kept l.voice.channel None) l.pair;
+  line : l.position < l.line.end → mixing.IsLineAt l.position l.line;
+  range : mixing.IsLineInRange l.line;
+  asked : (w : g.row.V-World.Denot) → g.V.SongView.shows l.view w → l.line.pair.at < 2 ^ 31 → mixing.IsPair l.voice.head (get_or (g.V.SongView.shown l.view w).kept l.voice.channel None) l.line.pair;
   loud : (k : ℕ) → k < l.sides-index → (n : ℕ) → mixing.IsLoud n (get_or l.fn.sums k mixing.silent_sides) → mixing.IsLoud (n + 1) (get_or l.sums k mixing.silent_sides);
   after : (k : ℕ) → l.sides-index ≤ k → get_or l.sums k mixing.silent_sides ≡ get_or l.fn.sums k mixing.silent_sides;
   holds : g.V.SongView.holds l.view ≡ g.V.SongView.holds l.fn.view;
