@@ -5,8 +5,8 @@
 #![tactic(auto)]
 
 ghost use Rattle.std.specs.Prelude.{◌≡◌, ℕ, ◌+◌, ◌<◌, ◌≤◌, None, IsTrue, length};
-ghost use Rattle.ft_shared.specs.Account.{opened};
-ghost use Rattle.ft_shared.specs.Pass.{dealt};
+ghost use Rattle.ft_shared.specs.Account.{opening_account};
+ghost use Rattle.ft_shared.specs.Pass.{fresh_passes};
 
 use anyhow::{Result, anyhow};
 use ft_shared::{ReaderPass, Shared, WriterPass};

@@ -12,7 +12,7 @@ use Rattle.ft_shared.specs.declared.law.View.{View}
 use Rattle.ft_shared.specs.declared.law.View.TheVariants.{Writer}
 use Rattle.ft_shared.specs.Layout.{current_word, pool_at}
 use Rattle.ft_shared.specs.Account.{slot_at, no_slot, first_account, pool_of}
-use Rattle.ft_shared.specs.Register.{Fits, Registered}
+use Rattle.ft_shared.specs.Register.{Fits, RegisterRule}
 use Rattle.ft_shared.proofs.Sums.{bit-zero}
 
 true-false : true ≡ false → ⊥
@@ -50,7 +50,7 @@ module _ (key : Opening) where
   opening-pool pool = drop-front front pool (pool_at key.sizes) front-length
 
   pub opens : (ws pool : List ℕ) → key.sizes.readers ≤ 8 → key.version < 4294967296 → key.root < 65536 → length pool ≡ 256 * key.sizes.segments → key.words.value.items ≡ ws
-      → ws ≡ (current_word key.version 0 key.root 0 ∷ replicate (pool_at key.sizes - 1) 0) ++ pool → Registered key (opening ws [] (Writer (first_account key)))
+      → ws ≡ (current_word key.version 0 key.root 0 ∷ replicate (pool_at key.sizes - 1) 0) ++ pool → RegisterRule key (opening ws [] (Writer (first_account key)))
   opens ws pool few v r long snap is =
       let p : ℕ = key.sizes.readers * key.sizes.channels in
       let wide : length ws ≡ pool_at key.sizes + 256 * key.sizes.segments = ap length is ∙ (length-append front pool ∙ (let f = front-length in omega arith)) in

@@ -9,26 +9,26 @@ use Rattle.atomic_table.proofs.Lists.{at_set, at_longer, at_last}
 use Rattle.ft_shared.specs.declared.law.Sizes.{Sizes}
 use Rattle.ft_shared.specs.declared.law.Opening.{Opening}
 use Rattle.ft_shared.specs.declared.law.PlacedVersion.{PlacedVersion}
-use Rattle.ft_shared.specs.declared.law.Taken.{Taken}
+use Rattle.ft_shared.specs.declared.law.TakenVersion.{TakenVersion}
 use Rattle.ft_shared.specs.declared.law.Hold.{Hold}
 use Rattle.ft_shared.specs.declared.law.Slot.{Slot}
 use Rattle.ft_shared.specs.declared.law.Account.{Account}
 use Rattle.ft_shared.specs.declared.law.View.{View}
 use Rattle.ft_shared.specs.declared.law.View.TheVariants.{Spent, Reader, Writer}
 use Rattle.ft_shared.specs.Layout.{current_word, slot_in, root_in, count_in}
-use Rattle.ft_shared.specs.Counts.{bit, upto, passes, one, numbered, grips, grip_of, holding}
+use Rattle.ft_shared.specs.Counts.{bit, sum_below, pass_sum, one, has_number, grip, grip_of, holders}
 use Rattle.ft_shared.specs.History.{Agrees, IsHistory}
 use Rattle.ft_shared.specs.Account.{slot_at, no_slot, account_of, after_clear, after_publish}
-use Rattle.ft_shared.specs.Register.{Words, Seated, Stands, Fits, amount, scan_count, marks, Registered}
-use Rattle.ft_shared.specs.Plays.{cleared, published}
-use Rattle.ft_shared.proofs.Sums.{at-le, index-le, set-keeps, slot-of, root-of, count-of, amount-le, upto-le, all-but-one}
+use Rattle.ft_shared.specs.Register.{TableState, SeatView, Stands, Fits, amount, scan_count, marks, RegisterRule}
+use Rattle.ft_shared.specs.Plays.{IsClear, IsPublish}
+use Rattle.ft_shared.proofs.Sums.{at-le, index-le, set-keeps, slot-of, root-of, count-of, amount-le, sum_below-le, all-but-one}
 use Rattle.ft_shared.proofs.Readers.{count-le, word-there}
 use Rattle.ft_shared.proofs.Writes.{stands_still, seats_still, sum_still, true-false}
 
 module _ (key : Opening) where
   -- the leavers of a free slot go to 0
-  cleared_at : (s : Words) (q : Registered key s) (id k : ℕ) → get_elem? s.views id ≡ some (Writer q.account) → id ≡ q.writer → k < key.sizes.readers + 2 → (slot_at q.account k).free ≡ true
-      → Registered key record { words = set s.words (k + 1) 0; homes = s.homes; views = set s.views id (Writer (after_clear q.account k)) }
+  cleared_at : (s : TableState) (q : RegisterRule key s) (id k : ℕ) → get_elem? s.views id ≡ some (Writer q.account) → id ≡ q.writer → k < key.sizes.readers + 2 → (slot_at q.account k).free ≡ true
+      → RegisterRule key record { words = set s.words (k + 1) 0; homes = s.homes; views = set s.views id (Writer (after_clear q.account k)) }
   cleared_at s q id k at writes inside free =
       let a : Account = q.account in
       let b : Account = after_clear a k in
@@ -41,7 +41,7 @@ module _ (key : Opening) where
       let frees : (j : ℕ) → (slot_at b j).free ≡ (slot_at a j).free = set-keeps (λ (z : Slot). z.free) a.slots k no_slot bare refl in
       let start-here : (slot_at b k).start ≡ 0 = ap (λ (z : Slot). z.start) (get_or-set_same a.slots k bare no_slot (omega arith)) in
       let start-else : (j : ℕ) → j ≢ k → (slot_at b j).start ≡ (slot_at a j).start = λ j ne. ap (λ (z : Slot). z.start) (get_or-set_other a.slots k j bare no_slot ne) in
-      let same : (j : ℕ) → holding j vs ≡ holding j s.views = λ j. sum_still key s id a b at refl (grip_of j) in
+      let same : (j : ℕ) → holders j vs ≡ holders j s.views = λ j. sum_still key s id a b at refl (grip_of j) in
       record {
         writer = q.writer;
         account = b;
@@ -55,28 +55,28 @@ module _ (key : Opening) where
         history = q.history;
         fresh = get_or-set_other s.words (k + 1) (a.slot + 1) 0 0 (λ e. u.0 (omega arith)) ∙ q.fresh;
         leavers = λ j l ne. dite (ℕ_discrete j k)
-            (λ (h : j ≡ k). subst (λ (i : ℕ). (slot_at b i).start ≡ get_or (set s.words (k + 1) 0) (i + 1) 0 + holding i vs) (sym h)
+            (λ (h : j ≡ k). subst (λ (i : ℕ). (slot_at b i).start ≡ get_or (set s.words (k + 1) 0) (i + 1) 0 + holders i vs) (sym h)
             (let x : get_or (set s.words (k + 1) 0) (k + 1) 0 ≡ 0 = get_or-set_same s.words (k + 1) 0 0 (word-there key s q (k + 1) (omega arith)) in
-            let y : holding k vs ≡ 0 = same k ∙ u.1 in omega arith))
+            let y : holders k vs ≡ 0 = same k ∙ u.1 in omega arith))
             (λ (h : j ≢ k). let x = start-else j h in let y = get_or-set_other s.words (k + 1) (j + 1) 0 0 (λ e. h (omega arith)) in let z = same j in let g = q.leavers j l ne in omega arith);
         starts = λ j. dite (ℕ_discrete j k)
             (λ (h : j ≡ k). subst (λ (i : ℕ). (slot_at b i).start ≤ key.sizes.readers) (sym h) (omega arith))
             (λ (h : j ≢ k). let x = start-else j h in let y = q.starts j in omega arith);
         unused = λ j e. let v = q.unused j (sym (frees j) ∙ e) in (v.0, same j ∙ v.1);
         scanned = λ t. let x = q.scanned t in
-            let y = upto-le (scan_count b vs) (scan_count a s.views) (key.sizes.readers + 2) (λ j l.
-            subst (λ (f : Bool). amount (eqb j a.slot) f (ltb j (length a.scan)) (holding j vs) ≤ scan_count a s.views j) (sym (frees j))
-            (amount-le (eqb j a.slot) (slot_at a j).free (ltb j (length a.scan)) (holding j vs) (holding j s.views) (λ e. let h = same j in omega arith))) in omega arith;
+            let y = sum_below-le (scan_count b vs) (scan_count a s.views) (key.sizes.readers + 2) (λ j l.
+            subst (λ (f : Bool). amount (eqb j a.slot) f (ltb j (length a.scan)) (holders j vs) ≤ scan_count a s.views j) (sym (frees j))
+            (amount-le (eqb j a.slot) (slot_at a j).free (ltb j (length a.scan)) (holders j vs) (holders j s.views) (λ e. let h = same j in omega arith))) in omega arith;
         count = (sum_still key s id a b at refl one ∙ q.count.0, q.count.1);
-        numbers = λ n. sum_still key s id a b at refl (numbered n) ∙ q.numbers n;
+        numbers = λ n. sum_still key s id a b at refl (has_number n) ∙ q.numbers n;
         unpinned = λ i l. get_or-set_other s.words (k + 1) (key.sizes.readers + 3 + i) 0 0 (omega arith) ∙ q.unpinned i l;
         stored = (q.stored.0, λ i. let p : ℕ = key.sizes.readers * key.sizes.channels in get_or-set_other s.words (k + 1) (key.sizes.readers + 3 + p + i) 0 0 (omega arith) ∙ q.stored.1 i);
         settled = λ i x e. stands_still key a b (slice_index_or a.settled i x) refl versions refl (q.settled i x e);
         each_seat = seats_still key s q id writes b refl versions refl;
       }
 
-  pub clears : (slots id k : ℕ) (me : Seated) → me.0 ≡ Writer (account_of me.0) → k < key.sizes.readers + 2 → (slot_at (account_of me.0) k).free ≡ true
-      → Allows (Registered key) slots id me (k + 1) (λ _. 0) (λ _. cleared (step slots (k + 1) 0 0 none) me 0)
+  pub clears : (slots id k : ℕ) (me : SeatView) → me.0 ≡ Writer (account_of me.0) → k < key.sizes.readers + 2 → (slot_at (account_of me.0) k).free ≡ true
+      → Allows (RegisterRule key) slots id me (k + 1) (λ _. 0) (λ _. IsClear (step slots (k + 1) 0 0 none) me 0)
   clears slots id k me is inside free s q deep at small =
       let e : Account = account_of me.0 in
       let at' : get_elem? s.views id ≡ some (Writer e) = at ∙ ap some is in
@@ -84,15 +84,15 @@ module _ (key : Opening) where
         Writer (after_clear e k),
         keeps,
         tt,
-        subst (λ (z : Account). get_elem? s.views id ≡ some (Writer z) → (slot_at z k).free ≡ true → Registered key record { words = set s.words (k + 1) 0; homes = s.homes; views = set s.views id (Writer (after_clear z k)) }) (sym same.0)
+        subst (λ (z : Account). get_elem? s.views id ≡ some (Writer z) → (slot_at z k).free ≡ true → RegisterRule key record { words = set s.words (k + 1) 0; homes = s.homes; views = set s.views id (Writer (after_clear z k)) }) (sym same.0)
             (λ t f. cleared_at s q id k t same.1 inside f) at' free,
         λ j h. let e2 : k ≡ j = omega arith in
             let apart : k ≢ e.slot = subst (λ (z : Account). (slot_at z k).free ≡ true → k ≢ z.slot) (sym same.0) (λ f. (q.unused k f).0) free in
             (ap (λ (i : ℕ). (Writer (after_clear e i), me.1)) e2, λ t. apart (e2 ∙ t)),
       )
 
-  grips-zero : (k slot : ℕ) (o : Option Taken) (t : Taken) → grips k o slot ≡ 0 → o ≡ Some t → slot ≢ k
-  grips-zero k slot o t z e h = let x : grips k o slot ≡ 1 = ap (λ (p : Option Taken). grips k p slot) e ∙ ap bit (eq-eqb slot k h) in absurd (omega arith)
+  grip-zero : (k slot : ℕ) (o : Option TakenVersion) (t : TakenVersion) → grip k o slot ≡ 0 → o ≡ Some t → slot ≢ k
+  grip-zero k slot o t z e h = let x : grip k o slot ≡ 1 = ap (λ (p : Option TakenVersion). grip k p slot) e ∙ ap bit (eq-eqb slot k h) in absurd (omega arith)
 
   at_end : (l : List PlacedVersion) (a b : PlacedVersion) (j : ℕ) → get_elem? (l ++ a ∷ []) j ≡ some b → (get_elem? l j ≡ some b) ⊎ ((j ≡ length l) × (a ≡ b))
   at_end [] a b zero e = inr (refl, some-injective a b e)
@@ -157,17 +157,17 @@ module _ (key : Opening) where
     told = f.told;
     past = let l = f.past in omega arith;
     recent = λ v e. let l = f.recent v e in omega arith;
-    borne = λ t e. let b = f.borne t e in (b.0, version-else a k root n h.slot (grips-zero k h.slot h.notes.held t empty e) ∙ b.1);
+    borne = λ t e. let b = f.borne t e in (b.0, version-else a k root n h.slot (grip-zero k h.slot h.notes.held t empty e) ∙ b.1);
     agrees = agrees_longer a.history (record { version = a.version + 1; root = root; pool = a.pool }) h f.agrees;
   }
 
   -- no pass holds a slot that was found free
-  unheld : (s : Words) (q : Registered key s) (k : ℕ) → (slot_at q.account k).free ≡ true → (j : ℕ) (v : View) → get_elem? s.views j ≡ some v → passes (grip_of k) v ≡ 0
-  unheld s q k free j v at = let u = (q.unused k free).1 in let a = at-le (passes (grip_of k)) s.views j v at in omega arith
+  unheld : (s : TableState) (q : RegisterRule key s) (k : ℕ) → (slot_at q.account k).free ≡ true → (j : ℕ) (v : View) → get_elem? s.views j ≡ some v → pass_sum (grip_of k) v ≡ 0
+  unheld s q k free j v at = let u = (q.unused k free).1 in let a = at-le (pass_sum (grip_of k)) s.views j v at in omega arith
 
-  published_at : (s : Words) (q : Registered key s) (id k root : ℕ) → get_elem? s.views id ≡ some (Writer q.account) → id ≡ q.writer → k < key.sizes.readers + 2 → (slot_at q.account k).free ≡ true
+  published_at : (s : TableState) (q : RegisterRule key s) (id k root : ℕ) → get_elem? s.views id ≡ some (Writer q.account) → id ≡ q.writer → k < key.sizes.readers + 2 → (slot_at q.account k).free ≡ true
       → (slot_at q.account k).start ≡ 0 → q.account.version + 1 < 4294967296 → root < 65536
-      → Registered key record { words = set s.words 0 (current_word (q.account.version + 1) k root 0); homes = s.homes; views = set s.views id (Writer (after_publish q.account k root (count_in (get_or s.words 0 0)))) }
+      → RegisterRule key record { words = set s.words 0 (current_word (q.account.version + 1) k root 0); homes = s.homes; views = set s.views id (Writer (after_publish q.account k root (count_in (get_or s.words 0 0)))) }
   published_at s q id k root at writes inside free bare room fits =
       let a : Account = q.account in
       let n : ℕ = count_in (get_or s.words 0 0) in
@@ -179,9 +179,9 @@ module _ (key : Opening) where
       let deep = q.deep in
       let ranges = q.ranges in
       let there = word-there key s q in
-      let same : (j : ℕ) → holding j vs ≡ holding j s.views = λ j. sum_still key s id a b at refl (grip_of j) in
-      let empty : holding k vs ≡ 0 = same k ∙ u.1 in
-      let old : n ≡ holding a.slot s.views = ap count_in q.current ∙ count-of a.version a.slot a.root (holding a.slot s.views) (let c = count-le key s q a.slot in omega arith) in
+      let same : (j : ℕ) → holders j vs ≡ holders j s.views = λ j. sum_still key s id a b at refl (grip_of j) in
+      let empty : holders k vs ≡ 0 = same k ∙ u.1 in
+      let old : n ≡ holders a.slot s.views = ap count_in q.current ∙ count-of a.version a.slot a.root (holders a.slot s.views) (let c = count-le key s q a.slot in omega arith) in
       let most = count-le key s q a.slot in
       let apart : a.slot ≢ k = λ e. u.0 (sym e) in
       let leavers-k = q.leavers k inside u.0 in
@@ -201,7 +201,7 @@ module _ (key : Opening) where
         history = history_next a.history key.version a.version a.root root a.pool q.history;
         fresh = get_or-set_other s.words 0 (k + 1) new 0 (omega arith) ∙ (let z = u.1 in omega arith);
         leavers = λ j l ne. dite (ℕ_discrete j a.slot)
-            (λ (h : j ≡ a.slot). subst (λ (i : ℕ). (slot_at b i).start ≡ get_or (set s.words 0 new) (i + 1) 0 + holding i vs) (sym h)
+            (λ (h : j ≡ a.slot). subst (λ (i : ℕ). (slot_at b i).start ≡ get_or (set s.words 0 new) (i + 1) 0 + holders i vs) (sym h)
             (let y : get_or (set s.words 0 new) (a.slot + 1) 0 ≡ 0 = get_or-set_other s.words 0 (a.slot + 1) new 0 (omega arith) ∙ q.fresh in
             let z = same a.slot in omega arith))
             (λ (h : j ≢ a.slot). let x = start-else a k root n j ne h in let y = get_or-set_other s.words 0 (j + 1) new 0 (omega arith) in let z = same j in let g = q.leavers j l h in omega arith);
@@ -215,7 +215,7 @@ module _ (key : Opening) where
             (λ (h : j ≢ k). let v = q.unused j (sym (free-else a k root n j h) ∙ e) in (h, same j ∙ v.1));
         scanned = λ t. absurd (true-false (sym t));
         count = (sum_still key s id a b at refl one ∙ q.count.0, q.count.1);
-        numbers = λ m. sum_still key s id a b at refl (numbered m) ∙ q.numbers m;
+        numbers = λ m. sum_still key s id a b at refl (has_number m) ∙ q.numbers m;
         unpinned = λ i l. get_or-set_other s.words 0 (key.sizes.readers + 3 + i) new 0 (omega arith) ∙ q.unpinned i l;
         stored = (q.stored.0, λ i. let p : ℕ = key.sizes.readers * key.sizes.channels in get_or-set_other s.words 0 (key.sizes.readers + 3 + p + i) new 0 (omega arith) ∙ q.stored.1 i);
         settled = λ i x e. stands_next a k root n (slice_index_or a.settled i x)
@@ -224,26 +224,26 @@ module _ (key : Opening) where
             (λ (t : (j ≢ id) × (get_elem? s.views j ≡ some v)). rest-of j v t.0 (unheld s q k free j v t.1) (q.each_seat j v t.1)) (at_set s.views id j (Writer b) v e);
       }
     where
-      rest-of : (j : ℕ) (v : View) → j ≢ id → passes (grip_of k) v ≡ 0 → Fits key q.account q.writer j v → Fits key (after_publish q.account k root (count_in (get_or s.words 0 0))) q.writer j v
+      rest-of : (j : ℕ) (v : View) → j ≢ id → pass_sum (grip_of k) v ≡ 0 → Fits key q.account q.writer j v → Fits key (after_publish q.account k root (count_in (get_or s.words 0 0))) q.writer j v
       rest-of j Spent ne z f = tt
       rest-of j (Reader h) ne z f = stands_next q.account k root (count_in (get_or s.words 0 0)) h z f
       rest-of j (Writer e) ne z f = absurd (ne (f.1 ∙ sym writes))
 
-  pub publishes : (slots id k root : ℕ) (me : Seated) → me.0 ≡ Writer (account_of me.0) → k < key.sizes.readers + 2 → key.sizes.readers ≤ 8 → (slot_at (account_of me.0) k).free ≡ true
+  pub publishes : (slots id k root : ℕ) (me : SeatView) → me.0 ≡ Writer (account_of me.0) → k < key.sizes.readers + 2 → key.sizes.readers ≤ 8 → (slot_at (account_of me.0) k).free ≡ true
       → (slot_at (account_of me.0) k).start ≡ 0 → (account_of me.0).version + 1 < 4294967296 → root < 65536
-      → Allows (Registered key) slots id me 0 (λ _. current_word ((account_of me.0).version + 1) k root 0) (published (step slots 0 (current_word ((account_of me.0).version + 1) k root 0) 0 none) me)
+      → Allows (RegisterRule key) slots id me 0 (λ _. current_word ((account_of me.0).version + 1) k root 0) (IsPublish (step slots 0 (current_word ((account_of me.0).version + 1) k root 0) 0 none) me)
   publishes slots id k root me is inside few free bare room fits s q deep at small =
       let e : Account = account_of me.0 in
       let n : ℕ = count_in (get_or s.words 0 0) in
       let at' : get_elem? s.views id ≡ some (Writer e) = at ∙ ap some is in
       let same : (e ≡ q.account) × (id ≡ q.writer) = q.each_seat id (Writer e) at' in
-      let most : n ≤ key.sizes.readers = let c = count-le key s q q.account.slot in let o = ap count_in q.current ∙ count-of q.account.version q.account.slot q.account.root (holding q.account.slot s.views) (omega arith) in omega arith in
+      let most : n ≤ key.sizes.readers = let c = count-le key s q q.account.slot in let o = ap count_in q.current ∙ count-of q.account.version q.account.slot q.account.root (holders q.account.slot s.views) (omega arith) in omega arith in
       let readers : e.sizes.readers ≡ key.sizes.readers = ap (λ (z : Account). z.sizes.readers) same.0 ∙ ap (λ (z : Sizes). z.readers) q.told in (
         Writer (after_publish e k root n),
         keeps,
         tt,
         subst (λ (z : Account). get_elem? s.views id ≡ some (Writer z) → (slot_at z k).free ≡ true → (slot_at z k).start ≡ 0 → z.version + 1 < 4294967296
-            → Registered key record { words = set s.words 0 (current_word (z.version + 1) k root 0); homes = s.homes; views = set s.views id (Writer (after_publish z k root n)) }) (sym same.0)
+            → RegisterRule key record { words = set s.words 0 (current_word (z.version + 1) k root 0); homes = s.homes; views = set s.views id (Writer (after_publish z k root n)) }) (sym same.0)
             (λ t f b r. published_at s q id k root t same.1 inside f b r fits) at' free bare room,
         ((λ i. (Writer (after_publish e (sym (slot-of (e.version + 1) k root 0 (omega arith) fits (omega arith)) i) (sym (root-of (e.version + 1) k root 0 (omega arith) fits (omega arith)) i) n), me.1)), omega arith),
       )
@@ -260,7 +260,7 @@ free-or-none ss (suc n) = go (free-or-none ss n) (slice_index_or ss n no_slot).f
         (λ (t : (k : ℕ) → k < n → (slice_index_or ss k no_slot).free ≡ false). inr (λ k l. dite (ℕ_discrete k n) (λ (h : k ≡ n). ap (λ (j : ℕ). (slice_index_or ss j no_slot).free) h ∙ e) (λ (h : k ≢ n). t k (omega arith)))) r
 
 -- after a whole scan a free slot is there: of readers + 2 slots one is current, and at most the readers' number was found held
-pub a_free_slot : (a : Account) (readers : ℕ) → upto (marks a) (readers + 2) ≤ readers → (k : ℕ) × (k < readers + 2) × ((slot_at a k).free ≡ true)
+pub a_free_slot : (a : Account) (readers : ℕ) → sum_below (marks a) (readers + 2) ≤ readers → (k : ℕ) × (k < readers + 2) × ((slot_at a k).free ≡ true)
 a_free_slot a readers whole = ⊎_elim (λ t. t)
     (λ (none-free : (k : ℕ) → k < readers + 2 → (slot_at a k).free ≡ false).
     let c = all-but-one (marks a) a.slot (readers + 2) (λ k l ne. λ i. amount (ne_eqb k a.slot ne i) (none-free k l i) true 0) in absurd (omega arith))
@@ -289,7 +289,7 @@ slots_published a k root n apart =
     set-forget a.slots k a.slot bare old new ∙ ap (λ (z : Slot). set (set a.slots a.slot (record z { start = n })) k new) (get_or-set_other a.slots k a.slot bare no_slot apart)
 
 -- the seat after both steps of a publish
-pub seat_published : (a : Account) (mid fin : Seated) (k root n word version : ℕ) → mid ≡ (Writer (after_clear a k), [])
+pub seat_published : (a : Account) (mid fin : SeatView) (k root n word version : ℕ) → mid ≡ (Writer (after_clear a k), [])
     → fin ≡ (Writer (after_publish (account_of mid.0) (slot_in word) (root_in word) n), mid.1) → word ≡ current_word version k root 0 → k < 256 → root < 65536
     → fin ≡ (Writer (after_publish (after_clear a k) k root n), [])
 seat_published a mid fin k root n word version was now is few fits =
@@ -297,5 +297,5 @@ seat_published a mid fin k root n word version was now is few fits =
     let roots : root_in word ≡ root = ap root_in is ∙ root-of version k root 0 few fits (omega arith) in
     now ∙ (λ i. (Writer (after_publish (account_of (was i).0) (slot i) (roots i) n), (was i).1))
 
-pub seated : (m : Seated) (a : Account) → m ≡ (Writer a, []) → m ≡ (Writer (account_of m.0), [])
-seated m a e = e ∙ ap (λ (z : Account). (Writer z, [])) (sym (ap (λ (n : Seated). account_of n.0) e))
+pub seated : (m : SeatView) (a : Account) → m ≡ (Writer a, []) → m ≡ (Writer (account_of m.0), [])
+seated m a e = e ∙ ap (λ (z : Account). (Writer z, [])) (sym (ap (λ (n : SeatView). account_of n.0) e))

@@ -9,56 +9,56 @@ use lib.Seq.{set-get_or}
 use Rattle.atomic_table.specs.Table.{step, keeps, Allows}
 use Rattle.atomic_table.proofs.Lists.{at_set}
 use Rattle.ft_shared.specs.declared.law.Opening.{Opening}
-use Rattle.ft_shared.specs.declared.law.Taken.{Taken}
+use Rattle.ft_shared.specs.declared.law.TakenVersion.{TakenVersion}
 use Rattle.ft_shared.specs.declared.law.Hold.{Hold}
 use Rattle.ft_shared.specs.declared.law.Account.{Account}
 use Rattle.ft_shared.specs.declared.law.View.{View}
 use Rattle.ft_shared.specs.declared.law.View.TheVariants.{Reader}
 use Rattle.ft_shared.specs.Layout.{current_word, version_in, slot_in, root_in}
-use Rattle.ft_shared.specs.Counts.{bit, upto, passes, one, numbered, grips, grip_of, holding}
-use Rattle.ft_shared.specs.History.{HasVersion, HasTaken}
+use Rattle.ft_shared.specs.Counts.{bit, sum_below, pass_sum, one, has_number, grip, grip_of, holders}
+use Rattle.ft_shared.specs.History.{HasVersion, HasTakenVersion}
 use Rattle.ft_shared.specs.Account.{slot_at, hold_of}
-use Rattle.ft_shared.specs.Register.{Words, Seated, Stands, Fits, scan_count, Registered}
-use Rattle.ft_shared.specs.Plays.{after_look, after_take, after_leave, looked, took, left}
-use Rattle.ft_shared.proofs.Sums.{total-set, total-le, all_one, passes-le, version-of, slot-of, root-of, amount-le, upto-le}
+use Rattle.ft_shared.specs.Register.{TableState, SeatView, Stands, Fits, scan_count, RegisterRule}
+use Rattle.ft_shared.specs.Plays.{after_look, after_take, after_leave, IsLook, IsTake, IsLeave}
+use Rattle.ft_shared.proofs.Sums.{total-set, total-le, all_one, passes-le, version-of, slot-of, root-of, amount-le, sum_below-le}
 
 none_some : {A : Type 0} (x : A) → None ≡ Some x → ⊥
 none_some x e = cc
 
 module _ (key : Opening) where
   -- the count fits its byte
-  pub count-le : (s : Words) (q : Registered key s) (k : ℕ) → holding k s.views ≤ key.sizes.readers
-  count-le s q k = let a = total-le (passes (grip_of k)) (passes one) (passes-le k) s.views in let b = q.count in omega arith
+  pub count-le : (s : TableState) (q : RegisterRule key s) (k : ℕ) → holders k s.views ≤ key.sizes.readers
+  count-le s q k = let a = total-le (pass_sum (grip_of k)) (pass_sum one) (passes-le k) s.views in let b = q.count in omega arith
 
   -- CURRENT and the leavers of each slot are words of the table
-  pub word-there : (s : Words) (q : Registered key s) (i : ℕ) → i < key.sizes.readers + 3 → i < length s.words
+  pub word-there : (s : TableState) (q : RegisterRule key s) (i : ℕ) → i < key.sizes.readers + 3 → i < length s.words
   word-there s q i l = let w = q.wide in let p : ℕ = key.sizes.readers * key.sizes.channels in let w' : length s.words ≡ key.sizes.readers + 3 + p + 256 * key.sizes.segments = w in omega arith
 
-  pub version-now : (s : Words) (q : Registered key s) → version_in (get_or s.words 0 0) ≡ q.account.version
-  version-now s q = let a = count-le s q q.account.slot in let f = q.few in let z = q.ranges in ap version_in q.current ∙ version-of q.account.version q.account.slot q.account.root (holding q.account.slot s.views) (omega arith) z.1 (omega arith)
+  pub version-now : (s : TableState) (q : RegisterRule key s) → version_in (get_or s.words 0 0) ≡ q.account.version
+  version-now s q = let a = count-le s q q.account.slot in let f = q.few in let z = q.ranges in ap version_in q.current ∙ version-of q.account.version q.account.slot q.account.root (holders q.account.slot s.views) (omega arith) z.1 (omega arith)
 
-  pub slot-now : (s : Words) (q : Registered key s) → slot_in (get_or s.words 0 0) ≡ q.account.slot
-  slot-now s q = let a = count-le s q q.account.slot in let f = q.few in let z = q.ranges in ap slot_in q.current ∙ slot-of q.account.version q.account.slot q.account.root (holding q.account.slot s.views) (omega arith) z.1 (omega arith)
+  pub slot-now : (s : TableState) (q : RegisterRule key s) → slot_in (get_or s.words 0 0) ≡ q.account.slot
+  slot-now s q = let a = count-le s q q.account.slot in let f = q.few in let z = q.ranges in ap slot_in q.current ∙ slot-of q.account.version q.account.slot q.account.root (holders q.account.slot s.views) (omega arith) z.1 (omega arith)
 
-  pub root-now : (s : Words) (q : Registered key s) → root_in (get_or s.words 0 0) ≡ q.account.root
-  root-now s q = let a = count-le s q q.account.slot in let f = q.few in let z = q.ranges in ap root_in q.current ∙ root-of q.account.version q.account.slot q.account.root (holding q.account.slot s.views) (omega arith) z.1 (omega arith)
+  pub root-now : (s : TableState) (q : RegisterRule key s) → root_in (get_or s.words 0 0) ≡ q.account.root
+  root-now s q = let a = count-le s q q.account.slot in let f = q.few in let z = q.ranges in ap root_in q.current ∙ root-of q.account.version q.account.slot q.account.root (holders q.account.slot s.views) (omega arith) z.1 (omega arith)
 
   -- what a scan counts does not grow where no slot but the current one has more holders
-  pub fewer : (s : Words) (q : Registered key s) (vs : List View) → ((k : ℕ) → k ≢ q.account.slot → holding k vs ≤ holding k s.views)
-      → q.account.begun ≡ true → upto (scan_count q.account vs) (key.sizes.readers + 2) ≤ key.sizes.readers
+  pub fewer : (s : TableState) (q : RegisterRule key s) (vs : List View) → ((k : ℕ) → k ≢ q.account.slot → holders k vs ≤ holders k s.views)
+      → q.account.begun ≡ true → sum_below (scan_count q.account vs) (key.sizes.readers + 2) ≤ key.sizes.readers
   fewer s q vs less b = let a = q.scanned b in let d : Account = q.account in
-      let c = upto-le (scan_count d vs) (scan_count d s.views) (key.sizes.readers + 2)
-      (λ k l. amount-le (eqb k d.slot) (slot_at d k).free (ltb k (length d.scan)) (holding k vs) (holding k s.views) (λ e. less k (false-eqb k d.slot (sym e)))) in omega arith
+      let c = sum_below-le (scan_count d vs) (scan_count d s.views) (key.sizes.readers + 2)
+      (λ k l. amount-le (eqb k d.slot) (slot_at d k).free (ltb k (length d.scan)) (holders k vs) (holders k s.views) (λ e. less k (false-eqb k d.slot (sym e)))) in omega arith
 
   -- the reader at the seat id goes from h to h', and the words become ws
-  reader_step : (s : Words) (q : Registered key s) (id : ℕ) (h h' : Hold) (ws : List ℕ) → get_elem? s.views id ≡ some (Reader h) → length ws ≡ length s.words
+  reader_step : (s : TableState) (q : RegisterRule key s) (id : ℕ) (h h' : Hold) (ws : List ℕ) → get_elem? s.views id ≡ some (Reader h) → length ws ≡ length s.words
       → h'.notes.number ≡ h.notes.number → Stands key q.account h'
       → ((i : ℕ) → key.sizes.readers + 3 ≤ i → get_or ws i 0 ≡ get_or s.words i 0)
-      → get_or ws 0 0 ≡ current_word q.account.version q.account.slot q.account.root (holding q.account.slot (set s.views id (Reader h')))
+      → get_or ws 0 0 ≡ current_word q.account.version q.account.slot q.account.root (holders q.account.slot (set s.views id (Reader h')))
       → get_or ws (q.account.slot + 1) 0 ≡ 0
-      → ((k : ℕ) → k < key.sizes.readers + 2 → k ≢ q.account.slot → (slot_at q.account k).start ≡ get_or ws (k + 1) 0 + holding k (set s.views id (Reader h')))
-      → ((k : ℕ) → k ≢ q.account.slot → holding k (set s.views id (Reader h')) ≤ holding k s.views)
-      → Registered key record { words = ws; homes = s.homes; views = set s.views id (Reader h') }
+      → ((k : ℕ) → k < key.sizes.readers + 2 → k ≢ q.account.slot → (slot_at q.account k).start ≡ get_or ws (k + 1) 0 + holders k (set s.views id (Reader h')))
+      → ((k : ℕ) → k ≢ q.account.slot → holders k (set s.views id (Reader h')) ≤ holders k s.views)
+      → RegisterRule key record { words = ws; homes = s.homes; views = set s.views id (Reader h') }
   reader_step s q id h h' ws at wide number stands beyond current fresh leavers less = record {
     writer = q.writer;
     account = q.account;
@@ -75,8 +75,8 @@ module _ (key : Opening) where
     starts = q.starts;
     unused = λ k e. let u = q.unused k e in let l = less k u.0 in (u.0, omega arith);
     scanned = λ b. fewer s q (set s.views id (Reader h')) less b;
-    count = (let e = total-set (passes one) s.views id (Reader h) (Reader h') at in let b = q.count in omega arith, q.count.1);
-    numbers = λ n. let e = total-set (passes (numbered n)) s.views id (Reader h) (Reader h') at in let m : numbered n h' ≡ numbered n h = ap (λ (k : ℕ). bit (eqb k n)) number in let b = q.numbers n in omega arith;
+    count = (let e = total-set (pass_sum one) s.views id (Reader h) (Reader h') at in let b = q.count in omega arith, q.count.1);
+    numbers = λ n. let e = total-set (pass_sum (has_number n)) s.views id (Reader h) (Reader h') at in let m : has_number n h' ≡ has_number n h = ap (λ (k : ℕ). bit (eqb k n)) number in let b = q.numbers n in omega arith;
     unpinned = λ i l. beyond (key.sizes.readers + 3 + i) (omega arith) ∙ q.unpinned i l;
     stored = (q.stored.0, λ i. let p : ℕ = key.sizes.readers * key.sizes.channels in beyond (key.sizes.readers + 3 + p + i) (omega arith) ∙ q.stored.1 i);
     settled = q.settled;
@@ -84,7 +84,7 @@ module _ (key : Opening) where
         (λ (t : (j ≢ id) × (get_elem? s.views j ≡ some v)). q.each_seat j v t.1) (at_set s.views id j (Reader h') v e);
   }
 
-  pub looks : (slots id : ℕ) (me : Seated) → me.0 ≡ Reader (hold_of me.0) → Allows (Registered key) slots id me 0 (λ n. n) (looked (step slots 0 0 0 none) me)
+  pub looks : (slots id : ℕ) (me : SeatView) → me.0 ≡ Reader (hold_of me.0) → Allows (RegisterRule key) slots id me 0 (λ n. n) (IsLook (step slots 0 0 0 none) me)
   looks slots id me is s q deep at small =
       let h : Hold = hold_of me.0 in
       let at' : get_elem? s.views id ≡ some (Reader h) = at ∙ ap some is in
@@ -95,11 +95,11 @@ module _ (key : Opening) where
       let mine = q.each_seat id (Reader h) at' in
       let past : h.notes.seen ≤ a.version = mine.past in
       let last = q.history.latest in
-      let same : (k : ℕ) → holding k (set s.views id (Reader h')) ≡ holding k s.views = λ k. let e = total-set (passes (grip_of k)) s.views id (Reader h) (Reader h') at' in omega arith in (
+      let same : (k : ℕ) → holders k (set s.views id (Reader h')) ≡ holders k s.views = λ k. let e = total-set (pass_sum (grip_of k)) s.views id (Reader h) (Reader h') at' in omega arith in (
         Reader h',
         keeps,
         tt,
-        subst (λ (ws : List ℕ). Registered key record { words = ws; homes = s.homes; views = set s.views id (Reader h') }) (sym (set-get_or s.words 0 0))
+        subst (λ (ws : List ℕ). RegisterRule key record { words = ws; homes = s.homes; views = set s.views id (Reader h') }) (sym (set-get_or s.words 0 0))
             (reader_step s q id h h' s.words at' refl refl (record {
               told = mine.told;
               past = omega arith;
@@ -118,7 +118,7 @@ module _ (key : Opening) where
         (refl, omega arith),
       )
 
-  pub takes : (slots id : ℕ) (me : Seated) → me.0 ≡ Reader (hold_of me.0) → (hold_of me.0).notes.held ≡ None → Allows (Registered key) slots id me 0 (λ n. (n + 1) % 2 ^ 64) (took (step slots 0 1 0 none) me)
+  pub takes : (slots id : ℕ) (me : SeatView) → me.0 ≡ Reader (hold_of me.0) → (hold_of me.0).notes.held ≡ None → Allows (RegisterRule key) slots id me 0 (λ n. (n + 1) % 2 ^ 64) (IsTake (step slots 0 1 0 none) me)
   takes slots id me is out s q deep at small =
       let h : Hold = hold_of me.0 in
       let at' : get_elem? s.views id ≡ some (Reader h) = at ∙ ap some is in
@@ -133,17 +133,17 @@ module _ (key : Opening) where
       let past : h.notes.seen ≤ a.version = mine.past in
       let ranges = q.ranges in
       let few = q.few in
-      let none_yet : (k : ℕ) → grip_of k h ≡ 0 = λ k. ap (λ (o : Option Taken). grips k o h.slot) out in
-      let here : holding a.slot vs ≡ holding a.slot s.views + 1 =
-      let e = total-set (passes (grip_of a.slot)) s.views id (Reader h) (Reader h') at' in let n = none_yet a.slot in let b : grip_of a.slot h' ≡ 1 = ap bit (eq-eqb (slot_in w) a.slot there) in omega arith in
-      let else : (k : ℕ) → k ≢ a.slot → holding k vs ≡ holding k s.views = λ k ne.
-      let e = total-set (passes (grip_of k)) s.views id (Reader h) (Reader h') at' in let n = none_yet k in let b : grip_of k h' ≡ 0 = ap bit (ne_eqb (slot_in w) k (λ t. ne (sym t ∙ there))) in omega arith in
+      let none_yet : (k : ℕ) → grip_of k h ≡ 0 = λ k. ap (λ (o : Option TakenVersion). grip k o h.slot) out in
+      let here : holders a.slot vs ≡ holders a.slot s.views + 1 =
+      let e = total-set (pass_sum (grip_of a.slot)) s.views id (Reader h) (Reader h') at' in let n = none_yet a.slot in let b : grip_of a.slot h' ≡ 1 = ap bit (eq-eqb (slot_in w) a.slot there) in omega arith in
+      let else : (k : ℕ) → k ≢ a.slot → holders k vs ≡ holders k s.views = λ k ne.
+      let e = total-set (pass_sum (grip_of k)) s.views id (Reader h) (Reader h') at' in let n = none_yet k in let b : grip_of k h' ≡ 0 = ap bit (ne_eqb (slot_in w) k (λ t. ne (sym t ∙ there))) in omega arith in
       let count = count-le s q a.slot in
-      let cur : w ≡ current_word a.version a.slot a.root (holding a.slot s.views) = q.current in
-      let next : (w + 1) % 2 ^ 64 ≡ current_word a.version a.slot a.root (holding a.slot vs) = omega arith in
+      let cur : w ≡ current_word a.version a.slot a.root (holders a.slot s.views) = q.current in
+      let next : (w + 1) % 2 ^ 64 ≡ current_word a.version a.slot a.root (holders a.slot vs) = omega arith in
       let last = q.history.latest in
-      let t : Taken = record { version = version_in w; root = root_in w } in
-      let had : HasTaken a.history t = (last.0, last.1, last.3, last.4 ∙ sym now, last.5 ∙ sym root) in
+      let t : TakenVersion = record { version = version_in w; root = root_in w } in
+      let had : HasTakenVersion a.history t = (last.0, last.1, last.3, last.4 ∙ sym now, last.5 ∙ sym root) in
       let bears : (slot_at a (slot_in w)).version ≡ version_in w = ap (λ (k : ℕ). (slot_at a k).version) there ∙ (q.bears ∙ sym now) in (
         Reader h',
         keeps,
@@ -153,11 +153,11 @@ module _ (key : Opening) where
               told = mine.told;
               past = omega arith;
               recent = λ (v : ℕ) e. absurd (none_some v e);
-              borne = λ (g : Taken) e. let same : t ≡ g = cc in subst (λ (z : Taken). (slot_in w < key.sizes.readers + 2) × ((slot_at a (slot_in w)).version ≡ z.version)) same (omega arith, bears);
+              borne = λ (g : TakenVersion) e. let same : t ≡ g = cc in subst (λ (z : TakenVersion). (slot_in w < key.sizes.readers + 2) × ((slot_at a (slot_in w)).version ≡ z.version)) same (omega arith, bears);
               agrees = record {
                 looks = mine.agrees.looks;
-                takes = All-append (HasTaken a.history) h.notes.takes (t ∷ []) mine.agrees.takes (all_one (HasTaken a.history) t had);
-                held = λ (g : Taken) e. let same : t ≡ g = cc in subst (HasTaken a.history) same had;
+                takes = All-append (HasTakenVersion a.history) h.notes.takes (t ∷ []) mine.agrees.takes (all_one (HasTakenVersion a.history) t had);
+                held = λ (g : TakenVersion) e. let same : t ≡ g = cc in subst (HasTakenVersion a.history) same had;
               };
             })
             (λ i l. get_or-set_other s.words 0 i ((w + 1) % 2 ^ 64) 0 (omega arith))
@@ -168,8 +168,8 @@ module _ (key : Opening) where
         (refl, omega arith, (let n : h.notes.sizes.readers ≡ key.sizes.readers = ap (λ z. z.readers) mine.told in omega arith)),
       )
 
-  leaves_one : (slots id : ℕ) (me : Seated) (t : Taken) (v : ℕ) → me.0 ≡ Reader (hold_of me.0) → (hold_of me.0).notes.held ≡ Some t → (hold_of me.0).notes.latest ≡ Some v → t.version < v
-      → Allows (Registered key) slots id me ((hold_of me.0).slot + 1) (λ n. (n + 1) % 2 ^ 64) (left (step slots ((hold_of me.0).slot + 1) 1 0 none) me)
+  leaves_one : (slots id : ℕ) (me : SeatView) (t : TakenVersion) (v : ℕ) → me.0 ≡ Reader (hold_of me.0) → (hold_of me.0).notes.held ≡ Some t → (hold_of me.0).notes.latest ≡ Some v → t.version < v
+      → Allows (RegisterRule key) slots id me ((hold_of me.0).slot + 1) (λ n. (n + 1) % 2 ^ 64) (IsLeave (step slots ((hold_of me.0).slot + 1) 1 0 none) me)
   leaves_one slots id me t v is has saw newer s q deep at small =
       let h : Hold = hold_of me.0 in
       let at' : get_elem? s.views id ≡ some (Reader h) = at ∙ ap some is in
@@ -182,11 +182,11 @@ module _ (key : Opening) where
       let borne = mine.borne t has in
       let bears = q.bears in
       let apart : h.slot ≢ a.slot = λ same. let e : t.version ≡ a.version = sym borne.1 ∙ (ap (λ (k : ℕ). (slot_at a k).version) same ∙ bears) in omega arith in
-      let before : (k : ℕ) → grip_of k h ≡ bit (eqb h.slot k) = λ k. ap (λ (o : Option Taken). grips k o h.slot) has in
-      let here : holding h.slot vs + 1 ≡ holding h.slot s.views =
-      let e = total-set (passes (grip_of h.slot)) s.views id (Reader h) (Reader h') at' in let b = before h.slot ∙ ap bit (eq-eqb h.slot h.slot refl) in omega arith in
-      let else : (k : ℕ) → k ≢ h.slot → holding k vs ≡ holding k s.views = λ k ne.
-      let e = total-set (passes (grip_of k)) s.views id (Reader h) (Reader h') at' in let b = before k ∙ ap bit (ne_eqb h.slot k (λ t. ne (sym t))) in omega arith in
+      let before : (k : ℕ) → grip_of k h ≡ bit (eqb h.slot k) = λ k. ap (λ (o : Option TakenVersion). grip k o h.slot) has in
+      let here : holders h.slot vs + 1 ≡ holders h.slot s.views =
+      let e = total-set (pass_sum (grip_of h.slot)) s.views id (Reader h) (Reader h') at' in let b = before h.slot ∙ ap bit (eq-eqb h.slot h.slot refl) in omega arith in
+      let else : (k : ℕ) → k ≢ h.slot → holders k vs ≡ holders k s.views = λ k ne.
+      let e = total-set (pass_sum (grip_of k)) s.views id (Reader h) (Reader h') at' in let b = before k ∙ ap bit (ne_eqb h.slot k (λ t. ne (sym t))) in omega arith in
       let leavers = q.leavers h.slot borne.0 apart in
       let few = q.few in
       let low = q.starts h.slot in
@@ -200,25 +200,25 @@ module _ (key : Opening) where
               told = mine.told;
               past = mine.past;
               recent = mine.recent;
-              borne = λ (g : Taken) e. absurd (none_some g e);
-              agrees = record { looks = mine.agrees.looks; takes = mine.agrees.takes; held = λ (g : Taken) e. absurd (none_some g e) };
+              borne = λ (g : TakenVersion) e. absurd (none_some g e);
+              agrees = record { looks = mine.agrees.looks; takes = mine.agrees.takes; held = λ (g : TakenVersion) e. absurd (none_some g e) };
             })
             (λ i l. get_or-set_other s.words (h.slot + 1) i ((w + 1) % 2 ^ 64) 0 (omega arith))
             (get_or-set_other s.words (h.slot + 1) 0 ((w + 1) % 2 ^ 64) 0 (omega arith) ∙ (q.current ∙ ap (current_word a.version a.slot a.root) (sym (else a.slot (λ e. apart (sym e))))))
             (get_or-set_other s.words (h.slot + 1) (a.slot + 1) ((w + 1) % 2 ^ 64) 0 (λ e. apart (omega arith)) ∙ q.fresh)
             (λ k l ne. dite (ℕ_discrete k h.slot)
-            (λ (e : k ≡ h.slot). subst (λ (j : ℕ). (slot_at a j).start ≡ get_or (set s.words (h.slot + 1) ((w + 1) % 2 ^ 64)) (j + 1) 0 + holding j vs) (sym e)
+            (λ (e : k ≡ h.slot). subst (λ (j : ℕ). (slot_at a j).start ≡ get_or (set s.words (h.slot + 1) ((w + 1) % 2 ^ 64)) (j + 1) 0 + holders j vs) (sym e)
             (let same = get_or-set_same s.words (h.slot + 1) ((w + 1) % 2 ^ 64) 0 (word-there s q (h.slot + 1) (omega arith)) in omega arith))
             (λ (e : k ≢ h.slot). let other = get_or-set_other s.words (h.slot + 1) (k + 1) ((w + 1) % 2 ^ 64) 0 (λ t. e (omega arith)) in let f = else k e in let g = q.leavers k l ne in omega arith))
             (λ k ne. dite (ℕ_discrete k h.slot)
-            (λ (e : k ≡ h.slot). subst (λ (j : ℕ). holding j vs ≤ holding j s.views) (sym e) (omega arith))
+            (λ (e : k ≡ h.slot). subst (λ (j : ℕ). holders j vs ≤ holders j s.views) (sym e) (omega arith))
             (λ (e : k ≢ h.slot). let f = else k e in omega arith)),
         refl,
       )
 
-  pub leaves : (slots id : ℕ) (me : Seated) → me.0 ≡ Reader (hold_of me.0) → (o : Option Taken) (l : Option ℕ) → (hold_of me.0).notes.held ≡ o → (hold_of me.0).notes.latest ≡ l
+  pub leaves : (slots id : ℕ) (me : SeatView) → me.0 ≡ Reader (hold_of me.0) → (o : Option TakenVersion) (l : Option ℕ) → (hold_of me.0).notes.held ≡ o → (hold_of me.0).notes.latest ≡ l
       → IsSomeAnd o (λ t. IsSomeAnd l (λ v. t.version < v))
-      → Allows (Registered key) slots id me ((hold_of me.0).slot + 1) (λ n. (n + 1) % 2 ^ 64) (left (step slots ((hold_of me.0).slot + 1) 1 0 none) me)
+      → Allows (RegisterRule key) slots id me ((hold_of me.0).slot + 1) (λ n. (n + 1) % 2 ^ 64) (IsLeave (step slots ((hold_of me.0).slot + 1) 1 0 none) me)
   leaves slots id me is None l has saw newer = absurd newer
   leaves slots id me is (Some t) None has saw newer = absurd newer
   leaves slots id me is (Some t) (Some v) has saw newer = leaves_one slots id me t v is has saw newer

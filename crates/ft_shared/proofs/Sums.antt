@@ -5,11 +5,11 @@ use mathlib.Core.Option.{some, some-injective, some-ne-none}
 use mathlib.Core.Logic.{dite}
 use native.Mathlib.Decide.{ℕ_discrete}
 use lib.ListN.{get_elem?}
-use Rattle.ft_shared.specs.declared.law.Taken.{Taken}
+use Rattle.ft_shared.specs.declared.law.TakenVersion.{TakenVersion}
 use Rattle.ft_shared.specs.declared.law.View.{View}
 use Rattle.ft_shared.specs.declared.law.View.TheVariants.{Spent, Reader, Writer}
 use Rattle.ft_shared.specs.Layout.{current_word, version_in, slot_in, root_in, count_in}
-use Rattle.ft_shared.specs.Counts.{bit, total, upto, passes, one, grips, grip_of, holding}
+use Rattle.ft_shared.specs.Counts.{bit, total, sum_below, pass_sum, one, grip, grip_of, holders}
 use Rattle.ft_shared.specs.Register.{amount}
 
 module _ {A : Type 0} where
@@ -54,14 +54,14 @@ bit-le true = omega arith
 bit-le false = omega arith
 
 -- a pass holds one slot at most
-grips-le : (k slot : ℕ) (o : Option Taken) → grips k o slot ≤ 1
-grips-le k slot None = omega arith
-grips-le k slot (Some t) = bit-le (slot == k)
+grip-le : (k slot : ℕ) (o : Option TakenVersion) → grip k o slot ≤ 1
+grip-le k slot None = omega arith
+grip-le k slot (Some t) = bit-le (slot == k)
 
-pub passes-le : (k : ℕ) (v : View) → passes (grip_of k) v ≤ passes one v
+pub passes-le : (k : ℕ) (v : View) → pass_sum (grip_of k) v ≤ pass_sum one v
 passes-le k Spent = omega arith
-passes-le k (Reader h) = grips-le k h.slot h.notes.held
-passes-le k (Writer a) = total-le (grip_of k) one (λ h. grips-le k h.slot h.notes.held) a.settled
+passes-le k (Reader h) = grip-le k h.slot h.notes.held
+passes-le k (Writer a) = total-le (grip_of k) one (λ h. grip-le k h.slot h.notes.held) a.settled
 
 pub version-of : (v k r n : ℕ) → k < 256 → r < 65536 → n < 256 → version_in (current_word v k r n) ≡ v
 version-of v k r n a b c = omega arith
@@ -123,27 +123,27 @@ amount-met false false m n = omega arith
 pub ltb-next : (k n : ℕ) → k ≢ n → ltb k (n + 1) ≡ ltb k n
 ltb-next k n ne = grind (arith, nat_tests)
 
-pub upto-le : (f g : ℕ → ℕ) (n : ℕ) → ((k : ℕ) → k < n → f k ≤ g k) → upto f n ≤ upto g n
-unfolding upto
-upto-le f g zero h = omega arith
-upto-le f g (suc n) h = let a = h n (omega arith) in let b = upto-le f g n (λ k l. h k (omega arith)) in omega arith
+pub sum_below-le : (f g : ℕ → ℕ) (n : ℕ) → ((k : ℕ) → k < n → f k ≤ g k) → sum_below f n ≤ sum_below g n
+unfolding sum_below
+sum_below-le f g zero h = omega arith
+sum_below-le f g (suc n) h = let a = h n (omega arith) in let b = sum_below-le f g n (λ k l. h k (omega arith)) in omega arith
 
-upto-add : (f g : ℕ → ℕ) (n : ℕ) → upto (λ k. f k + g k) n ≡ upto f n + upto g n
-unfolding upto
-upto-add f g zero = refl
-upto-add f g (suc n) = let a = upto-add f g n in omega arith
+sum_below-add : (f g : ℕ → ℕ) (n : ℕ) → sum_below (λ k. f k + g k) n ≡ sum_below f n + sum_below g n
+unfolding sum_below
+sum_below-add f g zero = refl
+sum_below-add f g (suc n) = let a = sum_below-add f g n in omega arith
 
-upto-zero : (f : ℕ → ℕ) (n : ℕ) → ((k : ℕ) → k < n → f k ≡ 0) → upto f n ≡ 0
-unfolding upto
-upto-zero f zero h = refl
-upto-zero f (suc n) h = let a = h n (omega arith) in let b = upto-zero f n (λ k l. h k (omega arith)) in omega arith
+sum_below-zero : (f : ℕ → ℕ) (n : ℕ) → ((k : ℕ) → k < n → f k ≡ 0) → sum_below f n ≡ 0
+unfolding sum_below
+sum_below-zero f zero h = refl
+sum_below-zero f (suc n) h = let a = h n (omega arith) in let b = sum_below-zero f n (λ k l. h k (omega arith)) in omega arith
 
-upto-total : {A : Type 0} (f : ℕ → A → ℕ) (g : A → ℕ) (n : ℕ) → ((a : A) → upto (λ k. f k a) n ≤ g a) → (xs : List A) → upto (λ k. total (f k) xs) n ≤ total g xs
-upto-total f g n h [] = let z = upto-zero (λ k. total (f k) []) n (λ k l. refl) in omega arith
-upto-total f g n h (x ∷ xs) = let a = upto-add (λ k. f k x) (λ k. total (f k) xs) n in let b = h x in let c = upto-total f g n h xs in omega arith
+sum_below-total : {A : Type 0} (f : ℕ → A → ℕ) (g : A → ℕ) (n : ℕ) → ((a : A) → sum_below (λ k. f k a) n ≤ g a) → (xs : List A) → sum_below (λ k. total (f k) xs) n ≤ total g xs
+sum_below-total f g n h [] = let z = sum_below-zero (λ k. total (f k) []) n (λ k l. refl) in omega arith
+sum_below-total f g n h (x ∷ xs) = let a = sum_below-add (λ k. f k x) (λ k. total (f k) xs) n in let b = h x in let c = sum_below-total f g n h xs in omega arith
 
-one-slot : (slot n : ℕ) → upto (λ k. bit (slot == k)) n ≤ bit (ltb slot n)
-unfolding upto
+one-slot : (slot n : ℕ) → sum_below (λ k. bit (slot == k)) n ≤ bit (ltb slot n)
+unfolding sum_below
 one-slot slot zero = omega arith
 one-slot slot (suc n) = let a = one-slot slot n in dite (ℕ_discrete slot n)
     (λ (h : slot ≡ n).
@@ -156,27 +156,27 @@ one-slot slot (suc n) = let a = one-slot slot n in dite (ℕ_discrete slot n)
     let e : bit (slot == n) ≡ 0 = ap bit (ne_eqb slot n h) in
     let l : bit (ltb slot n) ≤ bit (ltb slot (suc n)) = grind (arith, nat_tests) in omega arith)
 
-grips-upto : (n slot : ℕ) (o : Option Taken) → upto (λ k. grips k o slot) n ≤ 1
-grips-upto n slot None = let z = upto-zero (λ k. 0) n (λ k l. refl) in omega arith
-grips-upto n slot (Some t) = let a = one-slot slot n in let b = bit-le (ltb slot n) in omega arith
+grip-sum_below : (n slot : ℕ) (o : Option TakenVersion) → sum_below (λ k. grip k o slot) n ≤ 1
+grip-sum_below n slot None = let z = sum_below-zero (λ k. 0) n (λ k l. refl) in omega arith
+grip-sum_below n slot (Some t) = let a = one-slot slot n in let b = bit-le (ltb slot n) in omega arith
 
-passes-upto : (n : ℕ) (v : View) → upto (λ k. passes (grip_of k) v) n ≤ passes one v
-passes-upto n Spent = let z = upto-zero (λ k. 0) n (λ k l. refl) in omega arith
-passes-upto n (Reader h) = grips-upto n h.slot h.notes.held
-passes-upto n (Writer a) = upto-total grip_of one n (λ h. grips-upto n h.slot h.notes.held) a.settled
+passes-sum_below : (n : ℕ) (v : View) → sum_below (λ k. pass_sum (grip_of k) v) n ≤ pass_sum one v
+passes-sum_below n Spent = let z = sum_below-zero (λ k. 0) n (λ k l. refl) in omega arith
+passes-sum_below n (Reader h) = grip-sum_below n h.slot h.notes.held
+passes-sum_below n (Writer a) = sum_below-total grip_of one n (λ h. grip-sum_below n h.slot h.notes.held) a.settled
 
 -- the passes that hold a slot are at most the passes
-pub holding-upto : (n : ℕ) (vs : List View) → upto (λ k. holding k vs) n ≤ total (passes one) vs
-holding-upto n vs = upto-total (λ k v. passes (grip_of k) v) (passes one) n (passes-upto n) vs
+pub holding-sum_below : (n : ℕ) (vs : List View) → sum_below (λ k. holders k vs) n ≤ total (pass_sum one) vs
+holding-sum_below n vs = sum_below-total (λ k v. pass_sum (grip_of k) v) (pass_sum one) n (passes-sum_below n) vs
 
-all-but-none : (f : ℕ → ℕ) (s n : ℕ) → n ≤ s → ((k : ℕ) → k < n → k ≢ s → f k ≡ 1) → upto f n ≡ n
-unfolding upto
+all-but-none : (f : ℕ → ℕ) (s n : ℕ) → n ≤ s → ((k : ℕ) → k < n → k ≢ s → f k ≡ 1) → sum_below f n ≡ n
+unfolding sum_below
 all-but-none f s zero l h = refl
 all-but-none f s (suc n) l h = let a = h n (omega arith) (λ e. omega arith) in let b = all-but-none f s n (omega arith) (λ k m ne. h k (omega arith) ne) in omega arith
 
 -- where all but one of n count 1, they count n - 1 at least
-pub all-but-one : (f : ℕ → ℕ) (s n : ℕ) → ((k : ℕ) → k < n → k ≢ s → f k ≡ 1) → n ≤ upto f n + 1
-unfolding upto
+pub all-but-one : (f : ℕ → ℕ) (s n : ℕ) → ((k : ℕ) → k < n → k ≢ s → f k ≡ 1) → n ≤ sum_below f n + 1
+unfolding sum_below
 all-but-one f s zero h = omega arith
 all-but-one f s (suc n) h = dite (ℕ_discrete n s)
     (λ (e : n ≡ s). let b = all-but-none f s n (omega arith) (λ k l ne. h k (omega arith) ne) in omega arith)

@@ -1,43 +1,46 @@
 -- Counts over the passes: those of readers that have a seat, and those that the writer's seat took in.
-use Rattle.std.specs.Prelude.{ℕ, zero, suc, ◌+◌, ◌==◌, Bool, cond, List, [], ◌∷◌, Option, Some, None}
-use Rattle.ft_shared.specs.declared.law.Taken.{Taken}
+use Rattle.std.specs.Prelude.{ℕ, zero, suc, ◌+◌, ◌==◌, Bool, if◌then◌else◌, List, [], ◌∷◌, Option, Some, None}
+use Rattle.ft_shared.specs.declared.law.TakenVersion.{TakenVersion}
 use Rattle.ft_shared.specs.declared.law.Hold.{Hold}
 use Rattle.ft_shared.specs.declared.law.View.{View}
 use Rattle.ft_shared.specs.declared.law.View.TheVariants.{Spent, Reader, Writer}
 
 abbrev pub bit : Bool → ℕ
-bit b = cond b 1 0
+bit test = if test then 1 else 0
 
+-- the amounts of all items, added up
 abbrev pub total : {A : Type 0} → (A → ℕ) → List A → ℕ
-total f [] = 0
-total f (x ∷ xs) = f x + total f xs
+total amount [] = 0
+total amount (item ∷ items) = amount item + total amount items
 
--- f 0 + .. + f (n - 1)
-unfoldable pub upto : (ℕ → ℕ) → ℕ → ℕ
-upto f zero = 0
-upto f (suc n) = f n + upto f n
+-- the amounts of 0, .., n - 1, added up
+unfoldable pub sum_below : (ℕ → ℕ) → ℕ → ℕ
+sum_below amount zero = 0
+sum_below amount (suc n) = amount n + sum_below amount n
 
--- the sum of f over the passes behind a seat: the writer's has the settled ones
-abbrev pub passes : (Hold → ℕ) → View → ℕ
-passes f Spent = 0
-passes f (Reader h) = f h
-passes f (Writer a) = total f a.settled
+-- the sum over the passes behind a seat: the writer's has the settled ones
+abbrev pub pass_sum : (Hold → ℕ) → View → ℕ
+pass_sum amount Spent = 0
+pass_sum amount (Reader hold) = amount hold
+pass_sum amount (Writer account) = total amount account.settled
 
+-- each pass counts 1
 abbrev pub one : Hold → ℕ
-one h = 1
+one hold = 1
 
 -- 1 for a pass with this number
-abbrev pub numbered : ℕ → Hold → ℕ
-numbered n h = bit (h.notes.number == n)
+abbrev pub has_number : ℕ → Hold → ℕ
+has_number number hold = bit (hold.notes.number == number)
 
-abbrev pub grips : ℕ → Option Taken → ℕ → ℕ
-grips k None slot = 0
-grips k (Some t) slot = bit (slot == k)
+-- 1 where a version is held, and its slot is this one
+abbrev pub grip : ℕ → Option TakenVersion → ℕ → ℕ
+grip slot None borne_in = 0
+grip slot (Some taken) borne_in = bit (borne_in == slot)
 
--- 1 for a pass that holds the version in slot k
+-- 1 for a pass that holds the version in the slot
 abbrev pub grip_of : ℕ → Hold → ℕ
-grip_of k h = grips k h.notes.held h.slot
+grip_of slot hold = grip slot hold.notes.held hold.slot
 
--- how many passes hold the version in slot k
-abbrev pub holding : ℕ → List View → ℕ
-holding k vs = total (passes (grip_of k)) vs
+-- how many passes hold the version in the slot
+abbrev pub holders : ℕ → List View → ℕ
+holders slot views = total (pass_sum (grip_of slot)) views

@@ -1,31 +1,42 @@
 -- What the passes are, from their fields.
 use Rattle.std.specs.Prelude.{◌≡◌, ◌+◌, ◌≤◌, ◌<◌, [], length}
+use Rattle.ft_shared.specs.declared.law.Hold.{Hold}
+use Rattle.ft_shared.specs.declared.law.Account.{Account}
 use Rattle.ft_shared.specs.declared.law.View.TheVariants.{Reader, Writer}
 use Rattle.ft_shared.specs.declared.reader.ReaderPass.TheInside.{Inside as ReaderInside}
 use Rattle.ft_shared.specs.declared.writer.WriterPass.TheInside.{Inside as WriterInside}
-use Rattle.ft_shared.specs.Counts.{upto}
+use Rattle.ft_shared.specs.Counts.{sum_below}
 use Rattle.ft_shared.specs.Account.{hold_of, account_of, IsWhole}
 use Rattle.ft_shared.specs.Register.{marks}
-use Rattle.ft_shared.specs.Pass.{ReaderState, WriterState}
+use Rattle.ft_shared.specs.Pass.{ReaderState, WriterState, reader_at, writer_at}
+
+-- what a reader's pass knows, by its seat
+abbrev pub hold_in : ReaderInside → Hold
+hold_in pass = hold_of pass.place.me.0
+
+-- what the writer's pass knows, by its seat
+abbrev pub account_in : WriterInside → Account
+account_in pass = account_of pass.place.me.0
 
 abbrev pub reader_state : ReaderInside → ReaderState
-reader_state p = record { origin = record { table = p.place.table_id; sizes = (hold_of p.place.me.0).notes.sizes }; notes = (hold_of p.place.me.0).notes }
+reader_state pass = reader_at pass.place.table_id (hold_in pass)
 
-pub record IsReaderPass (p : ReaderInside) : Type 0 where
-  pub seat : p.place.me ≡ (Reader (hold_of p.place.me.0), [])
-  pub slot : (hold_of p.place.me.0).slot ≡ p.slot
-  pub inside : p.slot < (hold_of p.place.me.0).notes.sizes.readers + 2
+pub record IsReaderPass (pass : ReaderInside) : Type 0 where
+  pub seat : pass.place.me ≡ (Reader (hold_in pass), [])
+  pub slot : (hold_in pass).slot ≡ pass.slot
+  pub inside : pass.slot < (hold_in pass).notes.sizes.readers + 2
 
 abbrev pub writer_state : WriterInside → WriterState
-writer_state w = record { origin = record { table = w.place.table_id; sizes = (account_of w.place.me.0).sizes }; account = account_of w.place.me.0 }
+writer_state pass = writer_at pass.place.table_id (account_in pass)
 
-pub record IsWriterPass (w : WriterInside) : Type 0 where
-  pub seat : w.place.me ≡ (Writer (account_of w.place.me.0), [])
-  pub readers : ((account_of w.place.me.0).sizes.readers ≡ w.readers) × (w.readers ≤ 8)
-  pub version : (account_of w.place.me.0).version ≡ w.version
-  pub slot : (account_of w.place.me.0).slot ≡ w.slot
-  pub inside : w.slot < w.readers + 2
-  pub slots : (account_of w.place.me.0).slots ≡ w.slots
-  pub deep : length w.slots ≡ 10
+pub record IsWriterPass (pass : WriterInside) : Type 0 where
+  pub seat : pass.place.me ≡ (Writer (account_in pass), [])
+  pub readers : ((account_in pass).sizes.readers ≡ pass.readers) × (pass.readers ≤ 8)
+  pub version : (account_in pass).version ≡ pass.version
+  pub slot : (account_in pass).slot ≡ pass.slot
+  pub inside : pass.slot < pass.readers + 2
+  pub slots : (account_in pass).slots ≡ pass.slots
+  pub deep : length pass.slots ≡ 10
   -- a whole scan found at most as many slots held as there are readers
-  pub whole : IsWhole (account_of w.place.me.0).sizes (account_of w.place.me.0) → upto (marks (account_of w.place.me.0)) (w.readers + 2) ≤ w.readers
+  pub whole : IsWhole (account_in pass).sizes (account_in pass)
+      → sum_below (marks (account_in pass)) (pass.readers + 2) ≤ pass.readers

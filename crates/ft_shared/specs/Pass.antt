@@ -2,10 +2,11 @@
 use Rattle.std.specs.Prelude.{◌≡◌, ◌≢◌, ℕ, zero, suc, ◌+◌, ◌<◌, ◌≤◌, true, List, [], ◌∷◌, ◌++◌, Some, None}
 use Rattle.atomic_table.specs.Seated.{TableId}
 use Rattle.ft_shared.specs.declared.law.Sizes.{Sizes}
-use Rattle.ft_shared.specs.declared.law.Taken.{Taken}
+use Rattle.ft_shared.specs.declared.law.TakenVersion.{TakenVersion}
 use Rattle.ft_shared.specs.declared.law.Notes.{Notes}
+use Rattle.ft_shared.specs.declared.law.Hold.{Hold}
 use Rattle.ft_shared.specs.declared.law.Account.{Account}
-use Rattle.ft_shared.specs.Account.{new_notes, slot_at, after_clear, after_publish}
+use Rattle.ft_shared.specs.Account.{opening_account, new_notes, slot_at, after_clear, after_publish}
 
 -- Which register it is, and how large. A pass came from the register whose origin it has.
 pub record Origin : Type 0 where
@@ -20,32 +21,62 @@ pub record WriterState : Type 0 where
   pub origin : Origin
   pub account : Account
 
+-- the passes behind seats of a table
+abbrev pub reader_at : TableId → Hold → ReaderState
+reader_at table hold = record {
+  origin = record { table = table; sizes = hold.notes.sizes };
+  notes = hold.notes;
+}
+
+abbrev pub writer_at : TableId → Account → WriterState
+writer_at table account = record {
+  origin = record { table = table; sizes = account.sizes };
+  account = account;
+}
+
+-- the writer's pass of a register that was just opened
+abbrev pub opening_writer : Origin → ℕ → ℕ → List ℕ → WriterState
+opening_writer origin version root pool = record {
+  origin = origin;
+  account = opening_account origin.sizes version root pool;
+}
+
 -- a pass that was never used
 abbrev pub fresh_pass : Origin → ℕ → ReaderState
-fresh_pass o n = record { origin = o; notes = new_notes o.sizes n }
+fresh_pass origin number = record { origin = origin; notes = new_notes origin.sizes number }
 
 -- passes that were never used, with the numbers below n
-abbrev pub dealt : Origin → ℕ → List ReaderState
-dealt o zero = []
-dealt o (suc n) = dealt o n ++ fresh_pass o n ∷ []
+abbrev pub fresh_passes : Origin → ℕ → List ReaderState
+fresh_passes origin zero = []
+fresh_passes origin (suc n) = fresh_passes origin n ++ fresh_pass origin n ∷ []
 
 -- the look is noted, and what it gave is the greatest version seen
 abbrev pub note_look : Notes → ℕ → Notes
-note_look r v = record r { looks = r.looks ++ v ∷ []; latest = Some v; seen = v }
+note_look notes version = record notes {
+  looks = notes.looks ++ version ∷ [];
+  latest = Some version;
+  seen = version;
+}
 
 -- the take is noted, and its version is held; no look came since
-abbrev pub note_take : Notes → Taken → Notes
-note_take r t = record r { takes = r.takes ++ t ∷ []; held = Some t; latest = None; seen = t.version }
+abbrev pub note_take : Notes → TakenVersion → Notes
+note_take notes taken = record notes {
+  takes = notes.takes ++ taken ∷ [];
+  held = Some taken;
+  latest = None;
+  seen = taken.version;
+}
 
 -- no version is held
 abbrev pub note_leave : Notes → Notes
-note_leave r = record r { held = None }
+note_leave notes = record notes { held = None }
 
--- A publish: it chose a slot that was found free, and kept how many passes had taken the version before
-pub record Publishes (z : Sizes) (old new : Account) (root : ℕ) : Type 0 where
+-- A publish: it chose a slot that was found free, and kept how many passes had taken the version
+-- before
+pub record Publishes (sizes : Sizes) (old new : Account) (root : ℕ) : Type 0 where
   pub slot : ℕ
   pub count : ℕ
-  pub inside : (slot < z.readers + 2) × (slot ≢ old.slot)
+  pub inside : (slot < sizes.readers + 2) × (slot ≢ old.slot)
   pub free : (slot_at old slot).free ≡ true
-  pub few : count ≤ z.readers
+  pub few : count ≤ sizes.readers
   pub made : new ≡ after_publish (after_clear old slot) slot root count

@@ -4,52 +4,81 @@ use Rattle.atomic_table.specs.Table.{Step}
 use Rattle.ft_shared.specs.declared.law.Hold.{Hold}
 use Rattle.ft_shared.specs.declared.law.View.{View}
 use Rattle.ft_shared.specs.declared.law.View.TheVariants.{Spent, Reader, Writer}
-use Rattle.ft_shared.specs.Layout.{version_in, slot_in, root_in, count_in}
-use Rattle.ft_shared.specs.Counts.{upto}
-use Rattle.ft_shared.specs.Account.{hold_of, account_of, slot_at, is_free, new_notes, after_begin, after_scan, after_clear, after_publish}
-use Rattle.ft_shared.specs.Register.{Seated, marks}
+use Rattle.ft_shared.specs.Layout.{version_in, slot_in, root_in, count_in, leavers_at}
+use Rattle.ft_shared.specs.Counts.{sum_below}
+use Rattle.ft_shared.specs.Account.{hold_of, account_of, slot_at, next_slot, is_free, new_notes, after_begin, after_scan, after_clear, after_publish}
+use Rattle.ft_shared.specs.Register.{SeatView, marks}
 use Rattle.ft_shared.specs.Pass.{note_look, note_take, note_leave}
 
+-- what a kind of step says of itself, the seat before, the number found and the seat after
+abbrev pub StepKind : Type 1
+StepKind = Step (Unit {0}) → SeatView → ℕ → SeatView → Type 0
+
+-- ---- a reader's steps
+
 abbrev pub after_look : Hold → ℕ → Hold
-after_look h w = record h { notes = note_look h.notes (version_in w) }
+after_look hold word = record hold { notes = note_look hold.notes (version_in word) }
 
 abbrev pub after_take : Hold → ℕ → Hold
-after_take h w = record h { notes = note_take h.notes (record { version = version_in w; root = root_in w }); slot = slot_in w }
+after_take hold word = record hold {
+  notes = note_take hold.notes (record { version = version_in word; root = root_in word });
+  slot = slot_in word;
+}
 
 abbrev pub after_leave : Hold → Hold
-after_leave h = record h { notes = note_leave h.notes }
+after_leave hold = record hold { notes = note_leave hold.notes }
 
-abbrev pub looked : Step (Unit {0}) → Seated → ℕ → Seated → Type 0
-looked st m w m' = (m' ≡ (Reader (after_look (hold_of m.0) w), m.1)) × ((hold_of m.0).notes.seen ≤ version_in w)
+-- what it found is no older than what the pass had seen
+abbrev pub IsLook : StepKind
+IsLook step before found after =
+    (after ≡ (Reader (after_look (hold_of before.0) found), before.1))
+    × ((hold_of before.0).notes.seen ≤ version_in found)
 
-abbrev pub took : Step (Unit {0}) → Seated → ℕ → Seated → Type 0
-took st m w m' = (m' ≡ (Reader (after_take (hold_of m.0) w), m.1)) × ((hold_of m.0).notes.seen ≤ version_in w) × (slot_in w < (hold_of m.0).notes.sizes.readers + 2)
+-- the same, and the slot is one of the register
+abbrev pub IsTake : StepKind
+IsTake step before found after =
+    (after ≡ (Reader (after_take (hold_of before.0) found), before.1))
+    × ((hold_of before.0).notes.seen ≤ version_in found)
+    × (slot_in found < (hold_of before.0).notes.sizes.readers + 2)
 
-abbrev pub left : Step (Unit {0}) → Seated → ℕ → Seated → Type 0
-left st m w m' = m' ≡ (Reader (after_leave (hold_of m.0)), m.1)
+abbrev pub IsLeave : StepKind
+IsLeave step before found after = after ≡ (Reader (after_leave (hold_of before.0)), before.1)
 
-abbrev pub began : Step (Unit {0}) → Seated → ℕ → Seated → Type 0
-began st m w m' = m' ≡ (Writer (after_begin (account_of m.0)), m.1)
+-- ---- the writer's steps
+
+abbrev pub IsScanBegin : StepKind
+IsScanBegin step before found after =
+    after ≡ (Writer (after_begin (account_of before.0)), before.1)
 
 -- a slot that was found free before is found free again, and a whole scan finds at most as many slots held as there are readers
-abbrev pub scanned : Step (Unit {0}) → Seated → ℕ → Seated → Type 0
-scanned st m w m' = (m' ≡ (Writer (after_scan (account_of m.0) w), m.1))
-    × ((slot_at (account_of m.0) (length (account_of m.0).scan)).free ≡ true → is_free (account_of m.0) (length (account_of m.0).scan) w ≡ true)
-    × (length (account_of m.0).scan + 1 ≡ (account_of m.0).sizes.readers + 2 → upto (marks (after_scan (account_of m.0) w)) ((account_of m.0).sizes.readers + 2) ≤ (account_of m.0).sizes.readers)
+abbrev pub IsSlotScan : StepKind
+IsSlotScan step before found after =
+    (after ≡ (Writer (after_scan (account_of before.0) found), before.1))
+    × ((slot_at (account_of before.0) (next_slot (account_of before.0))).free ≡ true
+    → is_free (account_of before.0) (next_slot (account_of before.0)) found ≡ true)
+    × (next_slot (account_of before.0) + 1 ≡ (account_of before.0).sizes.readers + 2
+    → sum_below (marks (after_scan (account_of before.0) found)) ((account_of before.0).sizes.readers + 2)
+    ≤ (account_of before.0).sizes.readers)
 
 -- the slot is not the current one
-abbrev pub cleared : Step (Unit {0}) → Seated → ℕ → Seated → Type 0
-cleared st m w m' = (k : ℕ) → st.word ≡ k + 1 → (m' ≡ (Writer (after_clear (account_of m.0) k), m.1)) × (k ≢ (account_of m.0).slot)
+abbrev pub IsClear : StepKind
+IsClear step before found after = (slot : ℕ) → step.word ≡ leavers_at slot
+    → (after ≡ (Writer (after_clear (account_of before.0) slot), before.1))
+    × (slot ≢ (account_of before.0).slot)
 
 -- the count that was found is at most the readers
-abbrev pub published : Step (Unit {0}) → Seated → ℕ → Seated → Type 0
-published st m w m' = (m' ≡ (Writer (after_publish (account_of m.0) (slot_in st.first) (root_in st.first) (count_in w)), m.1)) × (count_in w ≤ (account_of m.0).sizes.readers)
+abbrev pub IsPublish : StepKind
+IsPublish step before found after =
+    (after ≡ (Writer (after_publish (account_of before.0) (slot_in step.first) (root_in step.first) (count_in found)), before.1))
+    × (count_in found ≤ (account_of before.0).sizes.readers)
+
+-- ---- a seat for a reader
 
 -- one more reader's pass is made
 abbrev pub after_give : View → View
-after_give (Writer a) = Writer (record a { given = a.given + 1 })
-after_give v = v
+after_give (Writer account) = Writer (record account { given = account.given + 1 })
+after_give view = view
 
 abbrev pub given_pass : View → View
-given_pass (Writer a) = Reader (record { notes = new_notes a.sizes a.given; slot = 0 })
-given_pass v = Spent
+given_pass (Writer account) = Reader (record { notes = new_notes account.sizes account.given; slot = 0 })
+given_pass view = Spent

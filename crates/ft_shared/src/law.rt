@@ -37,13 +37,13 @@ pub struct PlacedVersion {
 }
 
 /// A version that was taken, and its root segment.
-pub struct Taken {
+pub struct TakenVersion {
     pub version: u64,
     pub root: u64,
 }
 
 /// A word that was read of a held version: by the pin of this root, if by one.
-pub struct Read {
+pub struct WordRead {
     pub version: u64,
     pub pin: Option<u64>,
     pub segment: u64,
@@ -57,15 +57,15 @@ pub struct Notes {
     /// The pass's number, below the number of readers.
     pub number: u64,
     /// The version that it holds.
-    pub held: Option<Taken>,
+    pub held: Option<TakenVersion>,
     /// What its latest look since the take gave.
     pub latest: Option<u64>,
     /// The greatest version that it has seen.
     pub seen: u64,
     /// Its looks, takes and reads, each list in the order of the calls.
     pub looks: [u64; 0],
-    pub takes: [Taken; 0],
-    pub reads: [Read; 0],
+    pub takes: [TakenVersion; 0],
+    pub reads: [WordRead; 0],
 }
 
 /// A reader's notes, and the slot that bears the version that it holds.
@@ -121,10 +121,10 @@ pub(crate) struct Law;
 
 impl TableRule<(), View, Opening> for Law {
     ghost use Rattle.ft_shared.specs.Account.{first_account};
-    ghost use Rattle.ft_shared.specs.Register.{Registered};
+    ghost use Rattle.ft_shared.specs.Register.{RegisterRule};
     ghost use Rattle.ft_shared.specs.declared.law.View.TheVariants.{Writer};
 
-    ghost holds = { Registered };
+    ghost holds = { RegisterRule };
 
     ghost first = { λ key. Writer (first_account key) };
 }

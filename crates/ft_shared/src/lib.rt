@@ -3,7 +3,7 @@
 //! none waits for another thread.
 //!
 //! docs/REGISTER.md tells how it works. The rule that every atomic step keeps is
-//! `Registered` in `specs/Register.antt`.
+//! `RegisterRule` in `specs/Register.antt`.
 #![tactic(auto)]
 
 mod law;
@@ -16,7 +16,7 @@ mod shared;
 mod tests;
 mod writer;
 
-pub use law::{Account, Hold, Notes, PlacedVersion, Read, Sizes, Slot, Taken};
+pub use law::{Account, Hold, Notes, PlacedVersion, Sizes, Slot, TakenVersion, WordRead};
 pub use passes::ReaderPasses;
 pub use reader::{Held, ReaderPass};
 pub use shared::{OpenFault, Shared};

@@ -2,8 +2,9 @@
 ghost use Rattle.std.specs.Prelude.{◌≡◌, ℕ, ◌+◌, ◌-◌, ◌*◌, ◌/◌, ◌%◌, ◌≤◌, ◌<◌, IfOk, IfErr, OnOk, length, [], ◌∷◌, ◌++◌, replicate};
 ghost use Rattle.std.specs.Result.{IsErrOf};
 ghost use Rattle.ft_shared.specs.Layout.{current_word, pool_at};
-ghost use Rattle.ft_shared.specs.Account.{account_of, opened, new_notes, pool_of};
-ghost use Rattle.ft_shared.specs.Pass.{dealt};
+ghost use Rattle.ft_shared.specs.Account.{account_of, pool_of};
+ghost use Rattle.ft_shared.specs.Pass.{opening_writer, fresh_pass, fresh_passes};
+ghost use Rattle.ft_shared.specs.Plays.{after_give};
 ghost use Rattle.ft_shared.specs.declared.law.View.TheVariants.{Writer};
 ghost use Rattle.ft_shared.specs.declared.shared.OpenFault.TheVariants.{PoolSmall, NoMemory};
 
@@ -36,11 +37,14 @@ impl Shared {
         requires channels { (1 ≤ channels) × (channels ≤ 32) }
         requires words { (length words.now % 256 ≡ 0) × (length words.now ≤ 16776960) }
         requires root { root < length words.now / 256 }
-        ensures small { segments < length words.now / 256 → IsErrOf result (PoolSmall (length words.now / 256) segments) }
-        ensures memory { length words.now / 256 ≤ segments → IfErr result (λ e. e ≡ NoMemory) }
-        ensures sizes { IfOk result (λ r. r.0.sizes ≡ record { segments = segments; readers = readers; channels = channels }) }
-        ensures writer { IfOk result (λ r. r.1 ≡ record { origin = r.0; account = opened r.0.sizes version root (pool_of segments words.now) }) }
-        ensures passes { IfOk result (λ r. r.2 ≡ dealt r.0 readers) }
+        ensures small { segments < length words.now / 256
+            → IsErrOf result (PoolSmall (length words.now / 256) segments) }
+        ensures memory { length words.now / 256 ≤ segments → IfErr result (λ fault. fault ≡ NoMemory) }
+        ensures sizes { IfOk result (λ made. made.0.sizes
+            ≡ record { segments = segments; readers = readers; channels = channels }) }
+        ensures writer { IfOk result (λ made. made.1
+            ≡ opening_writer made.0 version root (pool_of segments words.now)) }
+        ensures passes { IfOk result (λ made. made.2 ≡ fresh_passes made.0 readers) }
     {
         let need = (words.len() / 256) as u32;
         if need > segments as u32 {
@@ -68,9 +72,10 @@ impl Shared {
         requires channels { sizes.channels ≤ 32 }
         requires segments { sizes.segments < 65536 }
         requires fits { length words.now ≤ 256 * sizes.segments }
-        ensures sizes { IfOk result (λ r. r.0.sizes ≡ sizes) }
-        ensures writer { IfOk result (λ r. r.1 ≡ record { origin = r.0; account = opened r.0.sizes version root (pool_of sizes.segments words.now) }) }
-        ensures passes { IfOk result (λ r. r.2 ≡ dealt r.0 sizes.readers) }
+        ensures sizes { IfOk result (λ made. made.0.sizes ≡ sizes) }
+        ensures writer { IfOk result (λ made. made.1
+            ≡ opening_writer made.0 version root (pool_of sizes.segments words.now)) }
+        ensures passes { IfOk result (λ made. made.2 ≡ fresh_passes made.0 sizes.readers) }
     {
         let all_words = first_words(alloc, sizes, version, root, words)?;
         let opening = Opening {
@@ -102,8 +107,9 @@ impl Shared {
         requires sizes { (account_of place.old.me.0).sizes ≡ self.now.sizes }
         requires all { readers ≡ self.now.sizes.readers }
         ensures place { OnOk result (place.new.table_id ≡ place.old.table_id) }
-        ensures writer { OnOk result (place.new.me ≡ (Writer (record (account_of place.old.me.0) { given = readers }), [])) }
-        ensures passes { IfOk result (λ v. v.items ≡ dealt self.now readers) }
+        ensures writer { OnOk result (place.new.me
+            ≡ (Writer (record (account_of place.old.me.0) { given = readers }), [])) }
+        ensures passes { IfOk result (λ passes. passes.items ≡ fresh_passes self.now readers) }
     {
         let mut passes = Vec::with_capacity(alloc, readers as usize)?;
         for _number in 0..readers {
@@ -119,8 +125,8 @@ impl Shared {
         requires more { (account_of place.old.me.0).given < self.now.sizes.readers }
         requires sizes { (account_of place.old.me.0).sizes ≡ self.now.sizes }
         ensures place { place.new.table_id ≡ place.old.table_id }
-        ensures writer { place.new.me ≡ (Writer (record (account_of place.old.me.0) { given = (account_of place.old.me.0).given + 1 }), []) }
-        ensures pass { result ≡ record { origin = self.now; notes = new_notes self.now.sizes (account_of place.old.me.0).given } }
+        ensures writer { place.new.me ≡ (after_give place.old.me.0, []) }
+        ensures pass { result ≡ fresh_pass self.now (account_of place.old.me.0).given }
     {
         ReaderPass::first(self.words.shared.split_seat::<Give>(place))
     }
@@ -139,7 +145,9 @@ fn first_words(
     requires channels { sizes.channels ≤ 32 }
     requires segments { sizes.segments < 65536 }
     requires fits { length words.now ≤ 256 * sizes.segments }
-    ensures { IfOk result (λ w. w.items ≡ (current_word version 0 root 0 ∷ replicate (pool_at sizes - 1) 0) ++ pool_of sizes.segments words.now) }
+    ensures { IfOk result (λ all. all.items
+        ≡ (current_word version 0 root 0 ∷ replicate (pool_at sizes - 1) 0)
+        ++ pool_of sizes.segments words.now) }
 {
     let before = (sizes.readers + 3 + sizes.readers * sizes.channels) as usize;
     let count = before + 256 * sizes.segments as usize;

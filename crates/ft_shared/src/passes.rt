@@ -1,6 +1,6 @@
 //! The readers' passes that were not handed out yet.
 ghost use Rattle.std.specs.Prelude.{◌≡◌, ℕ, ◌+◌, [], ◌∷◌, ◌++◌, MatchOption, IsSomeAnd};
-ghost use Rattle.ft_shared.specs.Pass.{Origin, dealt, fresh_pass};
+ghost use Rattle.ft_shared.specs.Pass.{Origin, fresh_passes, fresh_pass};
 
 use crate::reader::ReaderPass;
 use std::marker::Model;
@@ -17,7 +17,7 @@ impl Model for ReaderPasses {
 
     ghost Value = { List ReaderState };
 
-    ghost view = { λ s. s.row.items };
+    ghost view = { λ passes. passes.row.items };
 }
 
 impl ReaderPasses {
@@ -30,8 +30,12 @@ impl ReaderPasses {
     /// The next reader's pass. `None` comes exactly after all of them were given. No
     /// memory is taken.
     pub fn next(&mut self) -> Option<ReaderPass>
-        ensures given { MatchOption result ((self.old ≡ []) × (self.new ≡ [])) (λ p. self.old ≡ self.new ++ p ∷ []) }
-        ensures fresh { (o : Origin) (n : ℕ) → self.old ≡ dealt o (n + 1) → IsSomeAnd result (λ p. p ≡ fresh_pass o n) × (self.new ≡ dealt o n) }
+        ensures given { MatchOption result
+            ((self.old ≡ []) × (self.new ≡ []))
+            (λ pass. self.old ≡ self.new ++ pass ∷ []) }
+        ensures fresh { (origin : Origin) (n : ℕ) → self.old ≡ fresh_passes origin (n + 1)
+            → IsSomeAnd result (λ pass. pass ≡ fresh_pass origin n)
+            × (self.new ≡ fresh_passes origin n) }
     {
         self.row.pop()
     }

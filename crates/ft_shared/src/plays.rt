@@ -1,5 +1,5 @@
 //! What each kind of step tells the seat that makes it.
-ghost use Rattle.ft_shared.specs.Plays.{looked, took, left, began, scanned, cleared, published, after_give, given_pass};
+ghost use Rattle.ft_shared.specs.Plays.{IsLook, IsTake, IsLeave, IsScanBegin, IsSlotScan, IsClear, IsPublish, after_give, given_pass};
 
 use crate::law::View;
 use atomic_table::{Play, Split};
@@ -7,19 +7,19 @@ use atomic_table::{Play, Split};
 pub(crate) struct Look;
 
 impl Play<(), View> for Look {
-    ghost then = { looked };
+    ghost then = { IsLook };
 }
 
 pub(crate) struct Take;
 
 impl Play<(), View> for Take {
-    ghost then = { took };
+    ghost then = { IsTake };
 }
 
 pub(crate) struct Leave;
 
 impl Play<(), View> for Leave {
-    ghost then = { left };
+    ghost then = { IsLeave };
 }
 
 /// The writer's seat gives a reader its seat.
@@ -34,24 +34,24 @@ impl Split<View> for Give {
 pub(crate) struct BeginScan;
 
 impl Play<(), View> for BeginScan {
-    ghost then = { began };
+    ghost then = { IsScanBegin };
 }
 
 pub(crate) struct ScanSlot;
 
 impl Play<(), View> for ScanSlot {
-    ghost then = { scanned };
+    ghost then = { IsSlotScan };
 }
 
 /// The leavers of a free slot go to 0.
 pub(crate) struct Clear;
 
 impl Play<(), View> for Clear {
-    ghost then = { cleared };
+    ghost then = { IsClear };
 }
 
 pub(crate) struct Publish;
 
 impl Play<(), View> for Publish {
-    ghost then = { published };
+    ghost then = { IsPublish };
 }

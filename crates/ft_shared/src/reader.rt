@@ -1,7 +1,7 @@
 //! A reader: it looks at the current version, takes it, and leaves it.
 ghost use Rattle.std.specs.Prelude.{◌≡◌, ℕ, ◌≤◌, ◌<◌, ◌+◌, [], None, IsSomeAnd};
 ghost use Rattle.ft_shared.specs.Account.{hold_of};
-ghost use Rattle.ft_shared.specs.Pass.{note_look, note_take, note_leave};
+ghost use Rattle.ft_shared.specs.Pass.{reader_at, note_look, note_take, note_leave};
 ghost use Rattle.ft_shared.specs.declared.law.View.TheVariants.{Reader};
 
 use crate::law::Place;
@@ -43,7 +43,7 @@ impl ReaderPass {
     pub(crate) fn first(place: Place) -> ReaderPass
         requires role { place.me ≡ (Reader (hold_of place.me.0), []) }
         requires new { (hold_of place.me.0).slot ≡ 0 }
-        ensures { result ≡ record { origin = record { table = place.table_id; sizes = (hold_of place.me.0).notes.sizes }; notes = (hold_of place.me.0).notes } }
+        ensures { result ≡ reader_at place.table_id (hold_of place.me.0) }
     {
         ReaderPass { place, slot: 0 }
     }
@@ -67,7 +67,10 @@ impl Shared {
     pub fn take<L: Ledger>(&self, pass: &mut ReaderPass, steps: &mut Steps<L>) -> Held
         requires same { pass.old.origin ≡ self.now }
         requires free { pass.old.notes.held ≡ None }
-        ensures noted { pass.new ≡ record pass.old { notes = note_take pass.old.notes (record { version = result.version; root = result.root }) } }
+        ensures noted { pass.new ≡ record pass.old {
+          notes = note_take pass.old.notes
+              (record { version = result.version; root = result.root });
+        } }
         ensures later { pass.old.notes.seen ≤ result.version }
         ensures steps { steps.new ≡ steps.old + 1 }
     {
@@ -84,7 +87,8 @@ impl Shared {
     /// given a greater one. One `fetch_add`.
     pub fn leave<L: Ledger>(&self, pass: &mut ReaderPass, steps: &mut Steps<L>)
         requires same { pass.old.origin ≡ self.now }
-        requires newer { IsSomeAnd pass.old.notes.held (λ t. IsSomeAnd pass.old.notes.latest (λ v. t.version < v)) }
+        requires newer { IsSomeAnd pass.old.notes.held
+            (λ taken. IsSomeAnd pass.old.notes.latest (λ version. taken.version < version)) }
         ensures noted { pass.new ≡ record pass.old { notes = note_leave pass.old.notes } }
         ensures steps { steps.new ≡ steps.old + 1 }
     {

@@ -19,9 +19,13 @@ impl Model for Shared {
 
     ghost Value = { Origin };
 
-    ghost view = { λ s. record { table = s.words.shared.table_id; sizes = s.words.shared.key.sizes } };
+    ghost view = { λ shared. record {
+      table = shared.words.shared.table_id;
+      sizes = shared.words.shared.key.sizes;
+    } };
 
-    ghost invariant = { λ s. (s.words.shared.table_id.words ≡ word_count s.words.shared.key.sizes) × (s.words.shared.key.sizes.segments ≡ s.segments) };
+    ghost invariant = { λ shared. (shared.words.shared.table_id.words ≡ word_count shared.words.shared.key.sizes)
+        × (shared.words.shared.key.sizes.segments ≡ shared.segments) };
 }
 
 /// Why `Shared::open` refuses.
@@ -29,7 +33,12 @@ impl Model for Shared {
 pub enum OpenFault {
     /// The words need more segments than there are to be.
     #[error("the words need {need} segments, and there are {segments}")]
-    PoolSmall { need: u32, segments: u16 },
+    PoolSmall {
+        /// Segments that the words need, 1 to 65,535.
+        need: u32,
+        /// Segments that the pool was to have, 0 to 65,534.
+        segments: u16,
+    },
     /// Memory was wanting. No clause says when.
     #[error("out of memory")]
     NoMemory,

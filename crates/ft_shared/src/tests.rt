@@ -2,7 +2,7 @@
 ghost use Rattle.std.specs.Prelude.{◌≡◌, ℕ, ◌+◌, ◌<◌, ◌≤◌, None, length, IsTrue, IsSomeAnd, false};
 ghost use Rattle.std.specs.Thread.{IsSync};
 ghost use Rattle.ft_shared.specs.Account.{IsWhole};
-ghost use Rattle.ft_shared.specs.Pass.{dealt};
+ghost use Rattle.ft_shared.specs.Pass.{fresh_passes};
 
 use crate::{Held, OpenFault, ReaderPass, ReaderPasses, Shared, WriterPass};
 use ft_types::Steps;
@@ -87,7 +87,7 @@ fn a_held_version_keeps_its_slot(rt: HostRuntime) -> Result<(), Fail> {
     let words = vec![in rt.alloc(); 0_u64; 256]?;
     let Ok((shared, mut writer, mut passes)) = Shared::open(rt.alloc(), 64, 1, 1, 0, 0, &words)
     else {
-        panic!(rt; "not opened");
+        panic!(rt; "not opening_account");
     };
     let Some(mut reader) = passes.next() else {
         panic!(rt; "no pass");
@@ -259,7 +259,7 @@ fn followers_of<'a>(
     shared: &'a Shared,
     passes: &mut ReaderPasses,
 ) -> Result<Vec<Follower<'a>>, AllocError>
-    requires { passes.old ≡ dealt shared.now 8 }
+    requires { passes.old ≡ fresh_passes shared.now 8 }
 {
     let mut followers = Vec::with_capacity(alloc, 8)?;
     for _given in 0..8_u8 {
@@ -274,7 +274,7 @@ fn followers_of<'a>(
 fn eight_readers_follow_the_writer(rt: HostRuntime) -> Result<(), Fail> {
     let words = vec![in rt.alloc(); 0_u64; 256]?;
     let Ok((shared, writer, mut passes)) = Shared::open(rt.alloc(), 64, 8, 1, 0, 0, &words) else {
-        panic!(rt; "not opened");
+        panic!(rt; "not opening_account");
     };
     let mut author = Author {
         shared: &shared,

@@ -1,8 +1,8 @@
 //! The writer: it scans the slots for one that no reader holds, and publishes the next
 //! version in it.
 ghost use Rattle.std.specs.Prelude.{◌≡◌, ◌≢◌, ℕ, ◌+◌, ◌-◌, ◌<◌, ◌≤◌, ◌↔◌, [], ◌∷◌, ◌++◌, true, false, IsNone, IsSome, IfSome, length, slice_index_or, replicate};
-ghost use Rattle.ft_shared.specs.Account.{account_of, slot_at, no_slot, IsWhole, after_begin, after_scan, answer_of};
-ghost use Rattle.ft_shared.specs.Pass.{Publishes};
+ghost use Rattle.ft_shared.specs.Account.{account_of, new_slot, slot_at, no_slot, next_slot, IsWhole, after_begin, after_scan, answer_of};
+ghost use Rattle.ft_shared.specs.Pass.{Publishes, writer_at};
 ghost use Rattle.ft_shared.specs.declared.law.View.TheVariants.{Writer};
 
 use crate::law::{Place, Slot};
@@ -37,9 +37,9 @@ impl WriterPass {
         requires role { place.me ≡ (Writer (account_of place.me.0), []) }
         requires readers { (readers ≤ 8) × ((account_of place.me.0).sizes.readers ≡ readers) }
         requires version { ((account_of place.me.0).version ≡ version) × ((account_of place.me.0).slot ≡ 0) }
-        requires slots { (account_of place.me.0).slots ≡ replicate 10 (record { version = version; start = 0; free = false }) }
+        requires slots { (account_of place.me.0).slots ≡ replicate 10 (new_slot version) }
         requires none { (account_of place.me.0).begun ≡ false }
-        ensures { result ≡ record { origin = record { table = place.table_id; sizes = (account_of place.me.0).sizes }; account = account_of place.me.0 } }
+        ensures { result ≡ writer_at place.table_id (account_of place.me.0) }
     {
         let unused = Slot {
             version,
@@ -65,28 +65,31 @@ impl Shared {
         self.words.shared.load::<BeginScan>(&mut pass.place, 0);
     }
 
-    /// The version of the slot `k` where it is current or was found held, and `None` where
+    /// The version of the slot `slot` where it is current or was found held, and `None` where
     /// it was found free. Slots come in ascending order. One load.
     ///
     /// A slot once found free is found free by each later scan, until a publish chooses it.
-    pub fn scan_slot(&self, pass: &mut WriterPass, k: u8) -> Option<u32>
+    pub fn scan_slot(&self, pass: &mut WriterPass, slot: u8) -> Option<u32>
         requires same { pass.old.origin ≡ self.now }
         requires begun { pass.old.account.begun ≡ true }
-        requires next { length pass.old.account.scan ≡ k }
-        requires slot { k < self.now.sizes.readers + 2 }
-        ensures none { IsNone result ↔ ((k ≢ pass.old.account.slot) × ((slot_at pass.old.account k).start ≡ pass.new.account.gone)) }
-        ensures some { IfSome result (λ v. v ≡ (slot_at pass.old.account k).version) }
-        ensures free { (slot_at pass.old.account k).free ≡ true → IsNone result }
-        ensures noted { pass.new ≡ record pass.old { account = after_scan pass.old.account pass.new.account.gone } }
-        ensures answer { result ≡ answer_of pass.old.account k pass.new.account.gone }
+        requires next { next_slot pass.old.account ≡ slot }
+        requires slot { slot < self.now.sizes.readers + 2 }
+        ensures none { IsNone result ↔ ((slot ≢ pass.old.account.slot)
+            × ((slot_at pass.old.account slot).start ≡ pass.new.account.gone)) }
+        ensures some { IfSome result (λ version. version ≡ (slot_at pass.old.account slot).version) }
+        ensures free { (slot_at pass.old.account slot).free ≡ true → IsNone result }
+        ensures noted { pass.new ≡ record pass.old {
+          account = after_scan pass.old.account pass.new.account.gone;
+        } }
+        ensures answer { result ≡ answer_of pass.old.account slot pass.new.account.gone }
     {
-        let index = k as usize;
+        let index = slot as usize;
         let gone = self
             .words
             .shared
             .load::<ScanSlot>(&mut pass.place, index + 1);
         let Slot { version, start, .. } = pass.slots[index];
-        let is_free = k != pass.slot && start as u64 == gone;
+        let is_free = slot != pass.slot && start as u64 == gone;
         pass.slots[index].free = is_free;
         if is_free { None } else { Some(version) }
     }
@@ -102,7 +105,8 @@ impl Shared {
         ensures next { result ≡ pass.old.account.version + 1 }
         ensures origin { pass.new.origin ≡ pass.old.origin }
         ensures published { Publishes self.now.sizes pass.old.account pass.new.account root }
-        ensures history { pass.new.account.history ≡ pass.old.account.history ++ record { version = result; root = root; pool = pass.old.account.pool } ∷ [] }
+        ensures history { pass.new.account.history ≡ pass.old.account.history
+            ++ record { version = result; root = root; pool = pass.old.account.pool } ∷ [] }
     {
         let chosen = first_free(&pass.slots, pass.readers + 2);
         let index = chosen as usize;
@@ -127,13 +131,14 @@ impl Shared {
 
 /// The first free slot below `count`, of which there is one.
 fn first_free(slots: &[Slot; 10], count: u8) -> u8
-    requires some { (k : ℕ) × (k < count) × ((slice_index_or slots.now k no_slot).free ≡ true) }
+    requires some { (slot : ℕ) × (slot < count) × ((slice_index_or slots.now slot no_slot).free ≡ true) }
     requires few { count ≤ 10 }
-    ensures { (result < count) × ((slice_index_or slots.now result no_slot).free ≡ true) }
+    ensures free { (result < count) × ((slice_index_or slots.now result no_slot).free ≡ true) }
+    ensures first { (slot : ℕ) → slot < result → (slice_index_or slots.now slot no_slot).free ≡ false }
 {
-    for k in 0..count {
-        if slots[k as usize].free {
-            return k;
+    for slot in 0..count {
+        if slots[slot as usize].free {
+            return slot;
         }
     }
     unreachable!()

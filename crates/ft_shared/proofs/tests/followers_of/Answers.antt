@@ -1,10 +1,10 @@
 use Rattle.std.proofs.Common.{◌≡◌, ℕ, ◌+◌, ◌-◌, ◌<◌, List, ap, ◌∙◌, arith}
-use Rattle.ft_shared.specs.Pass.{Origin, ReaderState, dealt}
+use Rattle.ft_shared.specs.Pass.{Origin, ReaderState, fresh_passes}
 use Rattle.ft_shared.proofs.tests.followers_of.Goals as goal
 
 -- n passes are one more than n - 1
-one_more : (o : Origin) (n : ℕ) (ps : List ReaderState) → 0 < n → ps ≡ dealt o n → ps ≡ dealt o (n - 1 + 1)
-one_more o n ps more is = let e : n ≡ n - 1 + 1 = omega arith in is ∙ ap (dealt o) e
+one_more : (o : Origin) (n : ℕ) (ps : List ReaderState) → 0 < n → ps ≡ fresh_passes o n → ps ≡ fresh_passes o (n - 1 + 1)
+one_more o n ps more is = let e : n ≡ n - 1 + 1 = omega arith in is ∙ ap (fresh_passes o) e
 
 pub follower_of-requires : goal.follower_of-requires
 follower_of-requires c =

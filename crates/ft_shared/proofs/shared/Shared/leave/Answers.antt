@@ -1,8 +1,8 @@
 use Rattle.std.proofs.Common.{rules, ap, ◌≡◌, ◌+◌, ◌*◌, ◌%◌, ◌^◌, ℕ, subst, arith}
 use mathlib.Core.Option.{none}
 use Rattle.atomic_table.specs.Table.{Allows, step}
-use Rattle.ft_shared.specs.Plays.{left}
-use Rattle.ft_shared.specs.Register.{Registered}
+use Rattle.ft_shared.specs.Plays.{IsLeave}
+use Rattle.ft_shared.specs.Register.{RegisterRule}
 use Rattle.ft_shared.proofs.Readers.{leaves}
 use Rattle.ft_shared.proofs.shared.Shared.leave.Goals as goal
 
@@ -20,6 +20,6 @@ fetch_add-requires g c =
     let wide' : c.self.inside.words.shared.table_id.words ≡ key.sizes.readers + 3 + pins + 256 * key.sizes.segments = wide in (
       search rules,
       omega arith,
-      subst (λ (k : ℕ). Allows (Registered key) slots p.place.id p.place.me (k + 1) (λ n. (n + 1) % 2 ^ 64) (left (step slots (k + 1) 1 0 none) p.place.me)) c.pass.invariant.slot
+      subst (λ (k : ℕ). Allows (RegisterRule key) slots p.place.id p.place.me (k + 1) (λ n. (n + 1) % 2 ^ 64) (IsLeave (step slots (k + 1) 1 0 none) p.place.me)) c.pass.invariant.slot
           (leaves key slots p.place.id p.place.me (ap (λ m. m.0) c.pass.invariant.seat) _ _ (ap (λ p. p.notes.held) c.pass.view_is) (ap (λ p. p.notes.latest) c.pass.view_is) c.requires.newer),
     )

@@ -7,8 +7,8 @@ use Rattle.ft_shared.specs.declared.law.Account.{Account}
 use Rattle.ft_shared.specs.declared.law.View.TheVariants.{Writer}
 use Rattle.ft_shared.specs.Layout.{current_word, count_in}
 use Rattle.ft_shared.specs.Account.{account_of, slot_at, no_slot, after_clear, after_publish, IsWhole}
-use Rattle.ft_shared.specs.Plays.{published}
-use Rattle.ft_shared.specs.Register.{Registered}
+use Rattle.ft_shared.specs.Plays.{IsPublish}
+use Rattle.ft_shared.specs.Register.{RegisterRule}
 use Rattle.ft_shared.proofs.Publish.{clears, publishes, a_free_slot, slots_published, seat_published, seated}
 use Rattle.ft_shared.proofs.shared.Shared.publish.Goals as goal
 
@@ -31,7 +31,7 @@ store-requires c =
     let a = account_of w.place.me.0 in
     let key = c.self.inside.words.shared.key in
     let k = c.first_free-chosen.result in
-    let chosen = c.first_free-chosen.ensures in
+    let chosen = c.first_free-chosen.ensures.free in
     let inside = chosen.0 in
     let sizes : a.sizes.readers ≡ c.args.self.now.sizes.readers = ap (λ b. b.origin.sizes.readers) c.pass.view_is ∙ ap (λ o. o.sizes.readers) c.requires.same in
     let ours : key.sizes.readers ≡ c.args.self.now.sizes.readers = ap (λ o. o.sizes.readers) c.self.view_is in
@@ -51,7 +51,7 @@ swap-found-requires c =
     let key = c.self.inside.words.shared.key in
     let slots = c.self.inside.words.shared.table_id.slots in
     let k = c.first_free-chosen.result in
-    let chosen = c.first_free-chosen.ensures in
+    let chosen = c.first_free-chosen.ensures.free in
     let inside = chosen.0 in
     let deep : length a.slots ≡ 10 = ap length c.pass.invariant.slots ∙ c.pass.invariant.deep in
     let sizes : a.sizes.readers ≡ c.args.self.now.sizes.readers = ap (λ b. b.origin.sizes.readers) c.pass.view_is ∙ ap (λ o. o.sizes.readers) c.requires.same in
@@ -74,7 +74,7 @@ swap-found-requires c =
     let word : current_word ((account_of me.0).version + 1) k c.args.root 0 ≡ (w.version + 1) * 4294967296 + k * 16777216 + c.args.root * 256 = omega arith in (
       search rules,
       omega arith,
-      subst (λ (x : ℕ). Allows (Registered key) slots c.store.new.seat.id me 0 (λ _. x) (published (step slots 0 x 0 none) me)) word
+      subst (λ (x : ℕ). Allows (RegisterRule key) slots c.store.new.seat.id me 0 (λ _. x) (IsPublish (step slots 0 x 0 none) me)) word
           (publishes key slots c.store.new.seat.id k c.args.root me (ap (λ m. m.0) (seated _ _ now)) (omega arith) (omega arith) free start (omega arith) (omega arith)),
     )
 
@@ -83,7 +83,7 @@ invariant_of-pass c =
     let w = c.pass.inside in
     let a = account_of w.place.me.0 in
     let k = c.first_free-chosen.result in
-    let chosen = c.first_free-chosen.ensures in
+    let chosen = c.first_free-chosen.ensures.free in
     let inside = chosen.0 in
     let mid = c.store.new.seat.me in
     let fin = c.swap-found.new.seat.me in
@@ -112,7 +112,7 @@ returns-clause-published c =
     let w = c.pass.inside in
     let a = account_of w.place.me.0 in
     let k = c.first_free-chosen.result in
-    let chosen = c.first_free-chosen.ensures in
+    let chosen = c.first_free-chosen.ensures.free in
     let inside = chosen.0 in
     let mid = c.store.new.seat.me in
     let fin = c.swap-found.new.seat.me in
