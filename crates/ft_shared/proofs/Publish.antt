@@ -27,67 +27,67 @@ use Rattle.ft_shared.proofs.Writes.{stands_still, seats_still, sum_still, true-f
 
 module _ (key : Opening) where
   -- the leavers of a free slot go to 0
-  cleared_at : (s : TableState) (q : RegisterRule key s) (id k : ℕ) → get_elem? s.views id ≡ some (Writer q.account) → id ≡ q.writer → k < key.sizes.readers + 2 → (slot_at q.account k).free ≡ true
-      → RegisterRule key record { words = set s.words (k + 1) 0; homes = s.homes; views = set s.views id (Writer (after_clear q.account k)) }
-  cleared_at s q id k at writes inside free =
-      let a : Account = q.account in
+  cleared_at : (state : TableState) (rule : RegisterRule key state) (id k : ℕ) → get_elem? state.views id ≡ some (Writer rule.account) → id ≡ rule.writer → k < key.sizes.readers + 2 → (slot_at rule.account k).free ≡ true
+      → RegisterRule key record { words = set state.words (k + 1) 0; homes = state.homes; views = set state.views id (Writer (after_clear rule.account k)) }
+  cleared_at state rule id k at writes inside free =
+      let a : Account = rule.account in
       let b : Account = after_clear a k in
-      let vs : List View = set s.views id (Writer b) in
-      let u = q.unused k free in
-      let deep = q.deep in
-      let few = q.few in
+      let views : List View = set state.views id (Writer b) in
+      let u = rule.unused k free in
+      let deep = rule.deep in
+      let few = rule.few in
       let bare : Slot = record (slot_at a k) { start = 0 } in
       let versions : (j : ℕ) → (slot_at b j).version ≡ (slot_at a j).version = set-keeps (λ (z : Slot). z.version) a.slots k no_slot bare refl in
       let frees : (j : ℕ) → (slot_at b j).free ≡ (slot_at a j).free = set-keeps (λ (z : Slot). z.free) a.slots k no_slot bare refl in
       let start-here : (slot_at b k).start ≡ 0 = ap (λ (z : Slot). z.start) (get_or-set_same a.slots k bare no_slot (omega arith)) in
       let start-else : (j : ℕ) → j ≢ k → (slot_at b j).start ≡ (slot_at a j).start = λ j ne. ap (λ (z : Slot). z.start) (get_or-set_other a.slots k j bare no_slot ne) in
-      let same : (j : ℕ) → holders j vs ≡ holders j s.views = λ j. sum_still key s id a b at refl (grip_of j) in
+      let same : (j : ℕ) → holders j views ≡ holders j state.views = λ j. sum_still key state id a b at refl (grip_of j) in
       record {
-        writer = q.writer;
+        writer = rule.writer;
         account = b;
-        few = q.few;
-        told = q.told;
-        wide = length-set s.words (k + 1) 0 ∙ q.wide;
-        deep = length-set a.slots k bare ∙ q.deep;
-        ranges = q.ranges;
-        current = get_or-set_other s.words (k + 1) 0 0 0 (omega arith) ∙ (q.current ∙ ap (current_word a.version a.slot a.root) (sym (same a.slot)));
-        bears = versions a.slot ∙ q.bears;
-        history = q.history;
-        fresh = get_or-set_other s.words (k + 1) (a.slot + 1) 0 0 (λ e. u.0 (omega arith)) ∙ q.fresh;
+        few = rule.few;
+        told = rule.told;
+        wide = length-set state.words (k + 1) 0 ∙ rule.wide;
+        deep = length-set a.slots k bare ∙ rule.deep;
+        ranges = rule.ranges;
+        current = get_or-set_other state.words (k + 1) 0 0 0 (omega arith) ∙ (rule.current ∙ ap (current_word a.version a.slot a.root) (sym (same a.slot)));
+        bears = versions a.slot ∙ rule.bears;
+        history = rule.history;
+        fresh = get_or-set_other state.words (k + 1) (a.slot + 1) 0 0 (λ e. u.0 (omega arith)) ∙ rule.fresh;
         leavers = λ j l ne. dite (ℕ_discrete j k)
-            (λ (h : j ≡ k). subst (λ (i : ℕ). (slot_at b i).start ≡ get_or (set s.words (k + 1) 0) (i + 1) 0 + holders i vs) (sym h)
-            (let x : get_or (set s.words (k + 1) 0) (k + 1) 0 ≡ 0 = get_or-set_same s.words (k + 1) 0 0 (word-there key s q (k + 1) (omega arith)) in
-            let y : holders k vs ≡ 0 = same k ∙ u.1 in omega arith))
-            (λ (h : j ≢ k). let x = start-else j h in let y = get_or-set_other s.words (k + 1) (j + 1) 0 0 (λ e. h (omega arith)) in let z = same j in let g = q.leavers j l ne in omega arith);
+            (λ (h : j ≡ k). subst (λ (i : ℕ). (slot_at b i).start ≡ get_or (set state.words (k + 1) 0) (i + 1) 0 + holders i views) (sym h)
+            (let x : get_or (set state.words (k + 1) 0) (k + 1) 0 ≡ 0 = get_or-set_same state.words (k + 1) 0 0 (word-there key state rule (k + 1) (omega arith)) in
+            let y : holders k views ≡ 0 = same k ∙ u.1 in omega arith))
+            (λ (h : j ≢ k). let x = start-else j h in let y = get_or-set_other state.words (k + 1) (j + 1) 0 0 (λ e. h (omega arith)) in let z = same j in let g = rule.leavers j l ne in omega arith);
         starts = λ j. dite (ℕ_discrete j k)
             (λ (h : j ≡ k). subst (λ (i : ℕ). (slot_at b i).start ≤ key.sizes.readers) (sym h) (omega arith))
-            (λ (h : j ≢ k). let x = start-else j h in let y = q.starts j in omega arith);
-        unused = λ j e. let v = q.unused j (sym (frees j) ∙ e) in (v.0, same j ∙ v.1);
-        scanned = λ t. let x = q.scanned t in
-            let y = sum_below-le (scan_count b vs) (scan_count a s.views) (key.sizes.readers + 2) (λ j l.
-            subst (λ (f : Bool). amount (eqb j a.slot) f (ltb j (length a.scan)) (holders j vs) ≤ scan_count a s.views j) (sym (frees j))
-            (amount-le (eqb j a.slot) (slot_at a j).free (ltb j (length a.scan)) (holders j vs) (holders j s.views) (λ e. let h = same j in omega arith))) in omega arith;
-        count = (sum_still key s id a b at refl one ∙ q.count.0, q.count.1);
-        numbers = λ n. sum_still key s id a b at refl (has_number n) ∙ q.numbers n;
-        unpinned = λ i l. get_or-set_other s.words (k + 1) (key.sizes.readers + 3 + i) 0 0 (omega arith) ∙ q.unpinned i l;
-        stored = (q.stored.0, λ i. let p : ℕ = key.sizes.readers * key.sizes.channels in get_or-set_other s.words (k + 1) (key.sizes.readers + 3 + p + i) 0 0 (omega arith) ∙ q.stored.1 i);
-        settled = λ i x e. stands_still key a b (slice_index_or a.settled i x) refl versions refl (q.settled i x e);
-        each_seat = seats_still key s q id writes b refl versions refl;
+            (λ (h : j ≢ k). let x = start-else j h in let y = rule.starts j in omega arith);
+        unused = λ j e. let v = rule.unused j (sym (frees j) ∙ e) in (v.0, same j ∙ v.1);
+        scanned = λ t. let x = rule.scanned t in
+            let y = sum_below-le (scan_count b views) (scan_count a state.views) (key.sizes.readers + 2) (λ j l.
+            subst (λ (f : Bool). amount (eqb j a.slot) f (ltb j (length a.scan)) (holders j views) ≤ scan_count a state.views j) (sym (frees j))
+            (amount-le (eqb j a.slot) (slot_at a j).free (ltb j (length a.scan)) (holders j views) (holders j state.views) (λ e. let h = same j in omega arith))) in omega arith;
+        count = (sum_still key state id a b at refl one ∙ rule.count.0, rule.count.1);
+        numbers = λ n. sum_still key state id a b at refl (has_number n) ∙ rule.numbers n;
+        unpinned = λ i l. get_or-set_other state.words (k + 1) (key.sizes.readers + 3 + i) 0 0 (omega arith) ∙ rule.unpinned i l;
+        stored = (rule.stored.0, λ i. let p : ℕ = key.sizes.readers * key.sizes.channels in get_or-set_other state.words (k + 1) (key.sizes.readers + 3 + p + i) 0 0 (omega arith) ∙ rule.stored.1 i);
+        settled = λ i x e. stands_still key a b (slice_index_or a.settled i x) refl versions refl (rule.settled i x e);
+        each_seat = seats_still key state rule id writes b refl versions refl;
       }
 
   pub clears : (slots id k : ℕ) (me : SeatView) → me.0 ≡ Writer (account_of me.0) → k < key.sizes.readers + 2 → (slot_at (account_of me.0) k).free ≡ true
       → Allows (RegisterRule key) slots id me (k + 1) (λ _. 0) (λ _. IsClear (step slots (k + 1) 0 0 none) me 0)
-  clears slots id k me is inside free s q deep at small =
+  clears slots id k me is inside free state rule deep at small =
       let e : Account = account_of me.0 in
-      let at' : get_elem? s.views id ≡ some (Writer e) = at ∙ ap some is in
-      let same : (e ≡ q.account) × (id ≡ q.writer) = q.each_seat id (Writer e) at' in (
+      let at' : get_elem? state.views id ≡ some (Writer e) = at ∙ ap some is in
+      let same : (e ≡ rule.account) × (id ≡ rule.writer) = rule.each_seat id (Writer e) at' in (
         Writer (after_clear e k),
         keeps,
         tt,
-        subst (λ (z : Account). get_elem? s.views id ≡ some (Writer z) → (slot_at z k).free ≡ true → RegisterRule key record { words = set s.words (k + 1) 0; homes = s.homes; views = set s.views id (Writer (after_clear z k)) }) (sym same.0)
-            (λ t f. cleared_at s q id k t same.1 inside f) at' free,
+        subst (λ (z : Account). get_elem? state.views id ≡ some (Writer z) → (slot_at z k).free ≡ true → RegisterRule key record { words = set state.words (k + 1) 0; homes = state.homes; views = set state.views id (Writer (after_clear z k)) }) (sym same.0)
+            (λ t f. cleared_at state rule id k t same.1 inside f) at' free,
         λ j h. let e2 : k ≡ j = omega arith in
-            let apart : k ≢ e.slot = subst (λ (z : Account). (slot_at z k).free ≡ true → k ≢ z.slot) (sym same.0) (λ f. (q.unused k f).0) free in
+            let apart : k ≢ e.slot = subst (λ (z : Account). (slot_at z k).free ≡ true → k ≢ z.slot) (sym same.0) (λ f. (rule.unused k f).0) free in
             (ap (λ (i : ℕ). (Writer (after_clear e i), me.1)) e2, λ t. apart (e2 ∙ t)),
       )
 
@@ -162,90 +162,90 @@ module _ (key : Opening) where
   }
 
   -- no pass holds a slot that was found free
-  unheld : (s : TableState) (q : RegisterRule key s) (k : ℕ) → (slot_at q.account k).free ≡ true → (j : ℕ) (v : View) → get_elem? s.views j ≡ some v → pass_sum (grip_of k) v ≡ 0
-  unheld s q k free j v at = let u = (q.unused k free).1 in let a = at-le (pass_sum (grip_of k)) s.views j v at in omega arith
+  unheld : (state : TableState) (rule : RegisterRule key state) (k : ℕ) → (slot_at rule.account k).free ≡ true → (j : ℕ) (v : View) → get_elem? state.views j ≡ some v → pass_sum (grip_of k) v ≡ 0
+  unheld state rule k free j v at = let u = (rule.unused k free).1 in let a = at-le (pass_sum (grip_of k)) state.views j v at in omega arith
 
-  published_at : (s : TableState) (q : RegisterRule key s) (id k root : ℕ) → get_elem? s.views id ≡ some (Writer q.account) → id ≡ q.writer → k < key.sizes.readers + 2 → (slot_at q.account k).free ≡ true
-      → (slot_at q.account k).start ≡ 0 → q.account.version + 1 < 4294967296 → root < 65536
-      → RegisterRule key record { words = set s.words 0 (current_word (q.account.version + 1) k root 0); homes = s.homes; views = set s.views id (Writer (after_publish q.account k root (count_in (get_or s.words 0 0)))) }
-  published_at s q id k root at writes inside free bare room fits =
-      let a : Account = q.account in
-      let n : ℕ = count_in (get_or s.words 0 0) in
+  published_at : (state : TableState) (rule : RegisterRule key state) (id k root : ℕ) → get_elem? state.views id ≡ some (Writer rule.account) → id ≡ rule.writer → k < key.sizes.readers + 2 → (slot_at rule.account k).free ≡ true
+      → (slot_at rule.account k).start ≡ 0 → rule.account.version + 1 < 4294967296 → root < 65536
+      → RegisterRule key record { words = set state.words 0 (current_word (rule.account.version + 1) k root 0); homes = state.homes; views = set state.views id (Writer (after_publish rule.account k root (count_in (get_or state.words 0 0)))) }
+  published_at state rule id k root at writes inside free bare room fits =
+      let a : Account = rule.account in
+      let n : ℕ = count_in (get_or state.words 0 0) in
       let b : Account = after_publish a k root n in
-      let vs : List View = set s.views id (Writer b) in
+      let views : List View = set state.views id (Writer b) in
       let new : ℕ = current_word (a.version + 1) k root 0 in
-      let u = q.unused k free in
-      let few = q.few in
-      let deep = q.deep in
-      let ranges = q.ranges in
-      let there = word-there key s q in
-      let same : (j : ℕ) → holders j vs ≡ holders j s.views = λ j. sum_still key s id a b at refl (grip_of j) in
-      let empty : holders k vs ≡ 0 = same k ∙ u.1 in
-      let old : n ≡ holders a.slot s.views = ap count_in q.current ∙ count-of a.version a.slot a.root (holders a.slot s.views) (let c = count-le key s q a.slot in omega arith) in
-      let most = count-le key s q a.slot in
+      let u = rule.unused k free in
+      let few = rule.few in
+      let deep = rule.deep in
+      let ranges = rule.ranges in
+      let there = word-there key state rule in
+      let same : (j : ℕ) → holders j views ≡ holders j state.views = λ j. sum_still key state id a b at refl (grip_of j) in
+      let empty : holders k views ≡ 0 = same k ∙ u.1 in
+      let old : n ≡ holders a.slot state.views = ap count_in rule.current ∙ count-of a.version a.slot a.root (holders a.slot state.views) (let c = count-le key state rule a.slot in omega arith) in
+      let most = count-le key state rule a.slot in
       let apart : a.slot ≢ k = λ e. u.0 (sym e) in
-      let leavers-k = q.leavers k inside u.0 in
+      let leavers-k = rule.leavers k inside u.0 in
       let is : slot_at b k ≡ record { version = a.version + 1; start = 0; free = false } = chosen a k root n (omega arith) in
       let start-k : (slot_at b k).start ≡ 0 = ap (λ (z : Slot). z.start) is in
       let start-o : (slot_at b a.slot).start ≡ n = start-old a k root n apart (omega arith) in
       record {
-        writer = q.writer;
+        writer = rule.writer;
         account = b;
-        few = q.few;
-        told = q.told;
-        wide = length-set s.words 0 new ∙ q.wide;
-        deep = length-set (set a.slots a.slot (record (slot_at a a.slot) { start = n })) k (record { version = a.version + 1; start = 0; free = false }) ∙ (length-set a.slots a.slot (record (slot_at a a.slot) { start = n }) ∙ q.deep);
+        few = rule.few;
+        told = rule.told;
+        wide = length-set state.words 0 new ∙ rule.wide;
+        deep = length-set (set a.slots a.slot (record (slot_at a a.slot) { start = n })) k (record { version = a.version + 1; start = 0; free = false }) ∙ (length-set a.slots a.slot (record (slot_at a a.slot) { start = n }) ∙ rule.deep);
         ranges = (room, fits, inside);
-        current = get_or-set_same s.words 0 new 0 (there 0 (omega arith)) ∙ ap (current_word (a.version + 1) k root) (sym empty);
+        current = get_or-set_same state.words 0 new 0 (there 0 (omega arith)) ∙ ap (current_word (a.version + 1) k root) (sym empty);
         bears = ap (λ (z : Slot). z.version) is;
-        history = history_next a.history key.version a.version a.root root a.pool q.history;
-        fresh = get_or-set_other s.words 0 (k + 1) new 0 (omega arith) ∙ (let z = u.1 in omega arith);
+        history = history_next a.history key.version a.version a.root root a.pool rule.history;
+        fresh = get_or-set_other state.words 0 (k + 1) new 0 (omega arith) ∙ (let z = u.1 in omega arith);
         leavers = λ j l ne. dite (ℕ_discrete j a.slot)
-            (λ (h : j ≡ a.slot). subst (λ (i : ℕ). (slot_at b i).start ≡ get_or (set s.words 0 new) (i + 1) 0 + holders i vs) (sym h)
-            (let y : get_or (set s.words 0 new) (a.slot + 1) 0 ≡ 0 = get_or-set_other s.words 0 (a.slot + 1) new 0 (omega arith) ∙ q.fresh in
+            (λ (h : j ≡ a.slot). subst (λ (i : ℕ). (slot_at b i).start ≡ get_or (set state.words 0 new) (i + 1) 0 + holders i views) (sym h)
+            (let y : get_or (set state.words 0 new) (a.slot + 1) 0 ≡ 0 = get_or-set_other state.words 0 (a.slot + 1) new 0 (omega arith) ∙ rule.fresh in
             let z = same a.slot in omega arith))
-            (λ (h : j ≢ a.slot). let x = start-else a k root n j ne h in let y = get_or-set_other s.words 0 (j + 1) new 0 (omega arith) in let z = same j in let g = q.leavers j l h in omega arith);
+            (λ (h : j ≢ a.slot). let x = start-else a k root n j ne h in let y = get_or-set_other state.words 0 (j + 1) new 0 (omega arith) in let z = same j in let g = rule.leavers j l h in omega arith);
         starts = λ j. dite (ℕ_discrete j k)
             (λ (h : j ≡ k). subst (λ (i : ℕ). (slot_at b i).start ≤ key.sizes.readers) (sym h) (omega arith))
             (λ (h : j ≢ k). dite (ℕ_discrete j a.slot)
             (λ (g : j ≡ a.slot). subst (λ (i : ℕ). (slot_at b i).start ≤ key.sizes.readers) (sym g) (omega arith))
-            (λ (g : j ≢ a.slot). let x = start-else a k root n j h g in let y = q.starts j in omega arith));
+            (λ (g : j ≢ a.slot). let x = start-else a k root n j h g in let y = rule.starts j in omega arith));
         unused = λ j e. dite (ℕ_discrete j k)
             (λ (h : j ≡ k). absurd (true-false (sym e ∙ (ap (λ (i : ℕ). (slot_at b i).free) h ∙ ap (λ (z : Slot). z.free) is))))
-            (λ (h : j ≢ k). let v = q.unused j (sym (free-else a k root n j h) ∙ e) in (h, same j ∙ v.1));
+            (λ (h : j ≢ k). let v = rule.unused j (sym (free-else a k root n j h) ∙ e) in (h, same j ∙ v.1));
         scanned = λ t. absurd (true-false (sym t));
-        count = (sum_still key s id a b at refl one ∙ q.count.0, q.count.1);
-        numbers = λ m. sum_still key s id a b at refl (has_number m) ∙ q.numbers m;
-        unpinned = λ i l. get_or-set_other s.words 0 (key.sizes.readers + 3 + i) new 0 (omega arith) ∙ q.unpinned i l;
-        stored = (q.stored.0, λ i. let p : ℕ = key.sizes.readers * key.sizes.channels in get_or-set_other s.words 0 (key.sizes.readers + 3 + p + i) new 0 (omega arith) ∙ q.stored.1 i);
+        count = (sum_still key state id a b at refl one ∙ rule.count.0, rule.count.1);
+        numbers = λ m. sum_still key state id a b at refl (has_number m) ∙ rule.numbers m;
+        unpinned = λ i l. get_or-set_other state.words 0 (key.sizes.readers + 3 + i) new 0 (omega arith) ∙ rule.unpinned i l;
+        stored = (rule.stored.0, λ i. let p : ℕ = key.sizes.readers * key.sizes.channels in get_or-set_other state.words 0 (key.sizes.readers + 3 + p + i) new 0 (omega arith) ∙ rule.stored.1 i);
         settled = λ i x e. stands_next a k root n (slice_index_or a.settled i x)
-            (let y = unheld s q k free id (Writer a) at in let z = index-le (grip_of k) a.settled i x e in omega arith) (q.settled i x e);
-        each_seat = λ j v e. ⊎_elim (λ (t : (j ≡ id) × (Writer b ≡ v)). subst (Fits key b q.writer j) t.1 (refl, t.0 ∙ writes))
-            (λ (t : (j ≢ id) × (get_elem? s.views j ≡ some v)). rest-of j v t.0 (unheld s q k free j v t.1) (q.each_seat j v t.1)) (at_set s.views id j (Writer b) v e);
+            (let y = unheld state rule k free id (Writer a) at in let z = index-le (grip_of k) a.settled i x e in omega arith) (rule.settled i x e);
+        each_seat = λ j v e. ⊎_elim (λ (t : (j ≡ id) × (Writer b ≡ v)). subst (Fits key b rule.writer j) t.1 (refl, t.0 ∙ writes))
+            (λ (t : (j ≢ id) × (get_elem? state.views j ≡ some v)). rest-of j v t.0 (unheld state rule k free j v t.1) (rule.each_seat j v t.1)) (at_set state.views id j (Writer b) v e);
       }
     where
-      rest-of : (j : ℕ) (v : View) → j ≢ id → pass_sum (grip_of k) v ≡ 0 → Fits key q.account q.writer j v → Fits key (after_publish q.account k root (count_in (get_or s.words 0 0))) q.writer j v
+      rest-of : (j : ℕ) (v : View) → j ≢ id → pass_sum (grip_of k) v ≡ 0 → Fits key rule.account rule.writer j v → Fits key (after_publish rule.account k root (count_in (get_or state.words 0 0))) rule.writer j v
       rest-of j Spent ne z f = tt
-      rest-of j (Reader h) ne z f = stands_next q.account k root (count_in (get_or s.words 0 0)) h z f
+      rest-of j (Reader h) ne z f = stands_next rule.account k root (count_in (get_or state.words 0 0)) h z f
       rest-of j (Writer e) ne z f = absurd (ne (f.1 ∙ sym writes))
 
   pub publishes : (slots id k root : ℕ) (me : SeatView) → me.0 ≡ Writer (account_of me.0) → k < key.sizes.readers + 2 → key.sizes.readers ≤ 8 → (slot_at (account_of me.0) k).free ≡ true
       → (slot_at (account_of me.0) k).start ≡ 0 → (account_of me.0).version + 1 < 4294967296 → root < 65536
       → Allows (RegisterRule key) slots id me 0 (λ _. current_word ((account_of me.0).version + 1) k root 0) (IsPublish (step slots 0 (current_word ((account_of me.0).version + 1) k root 0) 0 none) me)
-  publishes slots id k root me is inside few free bare room fits s q deep at small =
+  publishes slots id k root me is inside few free bare room fits state rule deep at small =
       let e : Account = account_of me.0 in
-      let n : ℕ = count_in (get_or s.words 0 0) in
-      let at' : get_elem? s.views id ≡ some (Writer e) = at ∙ ap some is in
-      let same : (e ≡ q.account) × (id ≡ q.writer) = q.each_seat id (Writer e) at' in
-      let most : n ≤ key.sizes.readers = let c = count-le key s q q.account.slot in let o = ap count_in q.current ∙ count-of q.account.version q.account.slot q.account.root (holders q.account.slot s.views) (omega arith) in omega arith in
-      let readers : e.sizes.readers ≡ key.sizes.readers = ap (λ (z : Account). z.sizes.readers) same.0 ∙ ap (λ (z : Sizes). z.readers) q.told in (
+      let n : ℕ = count_in (get_or state.words 0 0) in
+      let at' : get_elem? state.views id ≡ some (Writer e) = at ∙ ap some is in
+      let same : (e ≡ rule.account) × (id ≡ rule.writer) = rule.each_seat id (Writer e) at' in
+      let most : n ≤ key.sizes.readers = let c = count-le key state rule rule.account.slot in let o = ap count_in rule.current ∙ count-of rule.account.version rule.account.slot rule.account.root (holders rule.account.slot state.views) (omega arith) in omega arith in
+      let readers : e.sizes.readers ≡ key.sizes.readers = ap (λ (z : Account). z.sizes.readers) same.0 ∙ ap (λ (z : Sizes). z.readers) rule.told in (
         Writer (after_publish e k root n),
         keeps,
         tt,
-        subst (λ (z : Account). get_elem? s.views id ≡ some (Writer z) → (slot_at z k).free ≡ true → (slot_at z k).start ≡ 0 → z.version + 1 < 4294967296
-            → RegisterRule key record { words = set s.words 0 (current_word (z.version + 1) k root 0); homes = s.homes; views = set s.views id (Writer (after_publish z k root n)) }) (sym same.0)
-            (λ t f b r. published_at s q id k root t same.1 inside f b r fits) at' free bare room,
-        ((λ i. (Writer (after_publish e (sym (slot-of (e.version + 1) k root 0 (omega arith) fits (omega arith)) i) (sym (root-of (e.version + 1) k root 0 (omega arith) fits (omega arith)) i) n), me.1)), omega arith),
+        subst (λ (z : Account). get_elem? state.views id ≡ some (Writer z) → (slot_at z k).free ≡ true → (slot_at z k).start ≡ 0 → z.version + 1 < 4294967296
+            → RegisterRule key record { words = set state.words 0 (current_word (z.version + 1) k root 0); homes = state.homes; views = set state.views id (Writer (after_publish z k root n)) }) (sym same.0)
+            (λ t f b r. published_at state rule id k root t same.1 inside f b r fits) at' free bare room,
+        ((λ i. (Writer (after_publish e (sym (slot-of (e.version + 1) k root 0 (omega arith) fits (omega arith)) i) (sym (root-of (e.version + 1) k root 0 (omega arith) fits (omega arith)) i) n), me.1)), omega arith, refl),
       )
 
 -- a slot below n that is free, or none is

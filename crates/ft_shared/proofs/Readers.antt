@@ -27,80 +27,80 @@ none_some x e = cc
 
 module _ (key : Opening) where
   -- the count fits its byte
-  pub count-le : (s : TableState) (q : RegisterRule key s) (k : ℕ) → holders k s.views ≤ key.sizes.readers
-  count-le s q k = let a = total-le (pass_sum (grip_of k)) (pass_sum one) (passes-le k) s.views in let b = q.count in omega arith
+  pub count-le : (state : TableState) (rule : RegisterRule key state) (k : ℕ) → holders k state.views ≤ key.sizes.readers
+  count-le state rule k = let a = total-le (pass_sum (grip_of k)) (pass_sum one) (passes-le k) state.views in let b = rule.count in omega arith
 
   -- CURRENT and the leavers of each slot are words of the table
-  pub word-there : (s : TableState) (q : RegisterRule key s) (i : ℕ) → i < key.sizes.readers + 3 → i < length s.words
-  word-there s q i l = let w = q.wide in let p : ℕ = key.sizes.readers * key.sizes.channels in let w' : length s.words ≡ key.sizes.readers + 3 + p + 256 * key.sizes.segments = w in omega arith
+  pub word-there : (state : TableState) (rule : RegisterRule key state) (i : ℕ) → i < key.sizes.readers + 3 → i < length state.words
+  word-there state rule i l = let w = rule.wide in let p : ℕ = key.sizes.readers * key.sizes.channels in let w' : length state.words ≡ key.sizes.readers + 3 + p + 256 * key.sizes.segments = w in omega arith
 
-  pub version-now : (s : TableState) (q : RegisterRule key s) → version_in (get_or s.words 0 0) ≡ q.account.version
-  version-now s q = let a = count-le s q q.account.slot in let f = q.few in let z = q.ranges in ap version_in q.current ∙ version-of q.account.version q.account.slot q.account.root (holders q.account.slot s.views) (omega arith) z.1 (omega arith)
+  pub version-now : (state : TableState) (rule : RegisterRule key state) → version_in (get_or state.words 0 0) ≡ rule.account.version
+  version-now state rule = let a = count-le state rule rule.account.slot in let f = rule.few in let z = rule.ranges in ap version_in rule.current ∙ version-of rule.account.version rule.account.slot rule.account.root (holders rule.account.slot state.views) (omega arith) z.1 (omega arith)
 
-  pub slot-now : (s : TableState) (q : RegisterRule key s) → slot_in (get_or s.words 0 0) ≡ q.account.slot
-  slot-now s q = let a = count-le s q q.account.slot in let f = q.few in let z = q.ranges in ap slot_in q.current ∙ slot-of q.account.version q.account.slot q.account.root (holders q.account.slot s.views) (omega arith) z.1 (omega arith)
+  pub slot-now : (state : TableState) (rule : RegisterRule key state) → slot_in (get_or state.words 0 0) ≡ rule.account.slot
+  slot-now state rule = let a = count-le state rule rule.account.slot in let f = rule.few in let z = rule.ranges in ap slot_in rule.current ∙ slot-of rule.account.version rule.account.slot rule.account.root (holders rule.account.slot state.views) (omega arith) z.1 (omega arith)
 
-  pub root-now : (s : TableState) (q : RegisterRule key s) → root_in (get_or s.words 0 0) ≡ q.account.root
-  root-now s q = let a = count-le s q q.account.slot in let f = q.few in let z = q.ranges in ap root_in q.current ∙ root-of q.account.version q.account.slot q.account.root (holders q.account.slot s.views) (omega arith) z.1 (omega arith)
+  pub root-now : (state : TableState) (rule : RegisterRule key state) → root_in (get_or state.words 0 0) ≡ rule.account.root
+  root-now state rule = let a = count-le state rule rule.account.slot in let f = rule.few in let z = rule.ranges in ap root_in rule.current ∙ root-of rule.account.version rule.account.slot rule.account.root (holders rule.account.slot state.views) (omega arith) z.1 (omega arith)
 
   -- what a scan counts does not grow where no slot but the current one has more holders
-  pub fewer : (s : TableState) (q : RegisterRule key s) (vs : List View) → ((k : ℕ) → k ≢ q.account.slot → holders k vs ≤ holders k s.views)
-      → q.account.begun ≡ true → sum_below (scan_count q.account vs) (key.sizes.readers + 2) ≤ key.sizes.readers
-  fewer s q vs less b = let a = q.scanned b in let d : Account = q.account in
-      let c = sum_below-le (scan_count d vs) (scan_count d s.views) (key.sizes.readers + 2)
-      (λ k l. amount-le (eqb k d.slot) (slot_at d k).free (ltb k (length d.scan)) (holders k vs) (holders k s.views) (λ e. less k (false-eqb k d.slot (sym e)))) in omega arith
+  pub fewer : (state : TableState) (rule : RegisterRule key state) (views : List View) → ((k : ℕ) → k ≢ rule.account.slot → holders k views ≤ holders k state.views)
+      → rule.account.begun ≡ true → sum_below (scan_count rule.account views) (key.sizes.readers + 2) ≤ key.sizes.readers
+  fewer state rule views less b = let a = rule.scanned b in let d : Account = rule.account in
+      let c = sum_below-le (scan_count d views) (scan_count d state.views) (key.sizes.readers + 2)
+      (λ k l. amount-le (eqb k d.slot) (slot_at d k).free (ltb k (length d.scan)) (holders k views) (holders k state.views) (λ e. less k (false-eqb k d.slot (sym e)))) in omega arith
 
   -- the reader at the seat id goes from h to h', and the words become ws
-  reader_step : (s : TableState) (q : RegisterRule key s) (id : ℕ) (h h' : Hold) (ws : List ℕ) → get_elem? s.views id ≡ some (Reader h) → length ws ≡ length s.words
-      → h'.notes.number ≡ h.notes.number → Stands key q.account h'
-      → ((i : ℕ) → key.sizes.readers + 3 ≤ i → get_or ws i 0 ≡ get_or s.words i 0)
-      → get_or ws 0 0 ≡ current_word q.account.version q.account.slot q.account.root (holders q.account.slot (set s.views id (Reader h')))
-      → get_or ws (q.account.slot + 1) 0 ≡ 0
-      → ((k : ℕ) → k < key.sizes.readers + 2 → k ≢ q.account.slot → (slot_at q.account k).start ≡ get_or ws (k + 1) 0 + holders k (set s.views id (Reader h')))
-      → ((k : ℕ) → k ≢ q.account.slot → holders k (set s.views id (Reader h')) ≤ holders k s.views)
-      → RegisterRule key record { words = ws; homes = s.homes; views = set s.views id (Reader h') }
-  reader_step s q id h h' ws at wide number stands beyond current fresh leavers less = record {
-    writer = q.writer;
-    account = q.account;
-    few = q.few;
-    told = q.told;
-    wide = wide ∙ q.wide;
-    deep = q.deep;
-    ranges = q.ranges;
+  reader_step : (state : TableState) (rule : RegisterRule key state) (id : ℕ) (h h' : Hold) (words : List ℕ) → get_elem? state.views id ≡ some (Reader h) → length words ≡ length state.words
+      → h'.notes.number ≡ h.notes.number → Stands key rule.account h'
+      → ((i : ℕ) → key.sizes.readers + 3 ≤ i → get_or words i 0 ≡ get_or state.words i 0)
+      → get_or words 0 0 ≡ current_word rule.account.version rule.account.slot rule.account.root (holders rule.account.slot (set state.views id (Reader h')))
+      → get_or words (rule.account.slot + 1) 0 ≡ 0
+      → ((k : ℕ) → k < key.sizes.readers + 2 → k ≢ rule.account.slot → (slot_at rule.account k).start ≡ get_or words (k + 1) 0 + holders k (set state.views id (Reader h')))
+      → ((k : ℕ) → k ≢ rule.account.slot → holders k (set state.views id (Reader h')) ≤ holders k state.views)
+      → RegisterRule key record { words = words; homes = state.homes; views = set state.views id (Reader h') }
+  reader_step state rule id h h' words at wide number stands beyond current fresh leavers less = record {
+    writer = rule.writer;
+    account = rule.account;
+    few = rule.few;
+    told = rule.told;
+    wide = wide ∙ rule.wide;
+    deep = rule.deep;
+    ranges = rule.ranges;
     current = current;
-    bears = q.bears;
-    history = q.history;
+    bears = rule.bears;
+    history = rule.history;
     fresh = fresh;
     leavers = leavers;
-    starts = q.starts;
-    unused = λ k e. let u = q.unused k e in let l = less k u.0 in (u.0, omega arith);
-    scanned = λ b. fewer s q (set s.views id (Reader h')) less b;
-    count = (let e = total-set (pass_sum one) s.views id (Reader h) (Reader h') at in let b = q.count in omega arith, q.count.1);
-    numbers = λ n. let e = total-set (pass_sum (has_number n)) s.views id (Reader h) (Reader h') at in let m : has_number n h' ≡ has_number n h = ap (λ (k : ℕ). bit (eqb k n)) number in let b = q.numbers n in omega arith;
-    unpinned = λ i l. beyond (key.sizes.readers + 3 + i) (omega arith) ∙ q.unpinned i l;
-    stored = (q.stored.0, λ i. let p : ℕ = key.sizes.readers * key.sizes.channels in beyond (key.sizes.readers + 3 + p + i) (omega arith) ∙ q.stored.1 i);
-    settled = q.settled;
-    each_seat = λ j v e. ⊎_elim (λ (t : (j ≡ id) × (Reader h' ≡ v)). subst (Fits key q.account q.writer j) t.1 stands)
-        (λ (t : (j ≢ id) × (get_elem? s.views j ≡ some v)). q.each_seat j v t.1) (at_set s.views id j (Reader h') v e);
+    starts = rule.starts;
+    unused = λ k e. let u = rule.unused k e in let l = less k u.0 in (u.0, omega arith);
+    scanned = λ b. fewer state rule (set state.views id (Reader h')) less b;
+    count = (let e = total-set (pass_sum one) state.views id (Reader h) (Reader h') at in let b = rule.count in omega arith, rule.count.1);
+    numbers = λ n. let e = total-set (pass_sum (has_number n)) state.views id (Reader h) (Reader h') at in let m : has_number n h' ≡ has_number n h = ap (λ (k : ℕ). bit (eqb k n)) number in let b = rule.numbers n in omega arith;
+    unpinned = λ i l. beyond (key.sizes.readers + 3 + i) (omega arith) ∙ rule.unpinned i l;
+    stored = (rule.stored.0, λ i. let p : ℕ = key.sizes.readers * key.sizes.channels in beyond (key.sizes.readers + 3 + p + i) (omega arith) ∙ rule.stored.1 i);
+    settled = rule.settled;
+    each_seat = λ j v e. ⊎_elim (λ (t : (j ≡ id) × (Reader h' ≡ v)). subst (Fits key rule.account rule.writer j) t.1 stands)
+        (λ (t : (j ≢ id) × (get_elem? state.views j ≡ some v)). rule.each_seat j v t.1) (at_set state.views id j (Reader h') v e);
   }
 
   pub looks : (slots id : ℕ) (me : SeatView) → me.0 ≡ Reader (hold_of me.0) → Allows (RegisterRule key) slots id me 0 (λ n. n) (IsLook (step slots 0 0 0 none) me)
-  looks slots id me is s q deep at small =
+  looks slots id me is state rule deep at small =
       let h : Hold = hold_of me.0 in
-      let at' : get_elem? s.views id ≡ some (Reader h) = at ∙ ap some is in
-      let w : ℕ = get_or s.words 0 0 in
+      let at' : get_elem? state.views id ≡ some (Reader h) = at ∙ ap some is in
+      let w : ℕ = get_or state.words 0 0 in
       let h' : Hold = after_look h w in
-      let a : Account = q.account in
-      let now : version_in w ≡ a.version = version-now s q in
-      let mine = q.each_seat id (Reader h) at' in
+      let a : Account = rule.account in
+      let now : version_in w ≡ a.version = version-now state rule in
+      let mine = rule.each_seat id (Reader h) at' in
       let past : h.notes.seen ≤ a.version = mine.past in
-      let last = q.history.latest in
-      let same : (k : ℕ) → holders k (set s.views id (Reader h')) ≡ holders k s.views = λ k. let e = total-set (pass_sum (grip_of k)) s.views id (Reader h) (Reader h') at' in omega arith in (
+      let last = rule.history.latest in
+      let same : (k : ℕ) → holders k (set state.views id (Reader h')) ≡ holders k state.views = λ k. let e = total-set (pass_sum (grip_of k)) state.views id (Reader h) (Reader h') at' in omega arith in (
         Reader h',
         keeps,
         tt,
-        subst (λ (ws : List ℕ). RegisterRule key record { words = ws; homes = s.homes; views = set s.views id (Reader h') }) (sym (set-get_or s.words 0 0))
-            (reader_step s q id h h' s.words at' refl refl (record {
+        subst (λ (words : List ℕ). RegisterRule key record { words = words; homes = state.homes; views = set state.views id (Reader h') }) (sym (set-get_or state.words 0 0))
+            (reader_step state rule id h h' state.words at' refl refl (record {
               told = mine.told;
               past = omega arith;
               recent = λ (v : ℕ) e. let is_v : version_in w ≡ v = cc in omega arith;
@@ -112,43 +112,43 @@ module _ (key : Opening) where
               };
             })
             (λ i l. refl)
-            (q.current ∙ ap (current_word a.version a.slot a.root) (sym (same a.slot))) q.fresh
-            (λ k l ne. q.leavers k l ne ∙ ap (λ (n : ℕ). get_or s.words (k + 1) 0 + n) (sym (same k)))
+            (rule.current ∙ ap (current_word a.version a.slot a.root) (sym (same a.slot))) rule.fresh
+            (λ k l ne. rule.leavers k l ne ∙ ap (λ (n : ℕ). get_or state.words (k + 1) 0 + n) (sym (same k)))
             (λ k ne. let e = same k in omega arith)),
-        (refl, omega arith),
+        (refl, omega arith, refl),
       )
 
   pub takes : (slots id : ℕ) (me : SeatView) → me.0 ≡ Reader (hold_of me.0) → (hold_of me.0).notes.held ≡ None → Allows (RegisterRule key) slots id me 0 (λ n. (n + 1) % 2 ^ 64) (IsTake (step slots 0 1 0 none) me)
-  takes slots id me is out s q deep at small =
+  takes slots id me is out state rule deep at small =
       let h : Hold = hold_of me.0 in
-      let at' : get_elem? s.views id ≡ some (Reader h) = at ∙ ap some is in
-      let w : ℕ = get_or s.words 0 0 in
+      let at' : get_elem? state.views id ≡ some (Reader h) = at ∙ ap some is in
+      let w : ℕ = get_or state.words 0 0 in
       let h' : Hold = after_take h w in
-      let a : Account = q.account in
-      let vs : List View = set s.views id (Reader h') in
-      let now : version_in w ≡ a.version = version-now s q in
-      let there : slot_in w ≡ a.slot = slot-now s q in
-      let root : root_in w ≡ a.root = root-now s q in
-      let mine = q.each_seat id (Reader h) at' in
+      let a : Account = rule.account in
+      let views : List View = set state.views id (Reader h') in
+      let now : version_in w ≡ a.version = version-now state rule in
+      let there : slot_in w ≡ a.slot = slot-now state rule in
+      let root : root_in w ≡ a.root = root-now state rule in
+      let mine = rule.each_seat id (Reader h) at' in
       let past : h.notes.seen ≤ a.version = mine.past in
-      let ranges = q.ranges in
-      let few = q.few in
+      let ranges = rule.ranges in
+      let few = rule.few in
       let none_yet : (k : ℕ) → grip_of k h ≡ 0 = λ k. ap (λ (o : Option TakenVersion). grip k o h.slot) out in
-      let here : holders a.slot vs ≡ holders a.slot s.views + 1 =
-      let e = total-set (pass_sum (grip_of a.slot)) s.views id (Reader h) (Reader h') at' in let n = none_yet a.slot in let b : grip_of a.slot h' ≡ 1 = ap bit (eq-eqb (slot_in w) a.slot there) in omega arith in
-      let else : (k : ℕ) → k ≢ a.slot → holders k vs ≡ holders k s.views = λ k ne.
-      let e = total-set (pass_sum (grip_of k)) s.views id (Reader h) (Reader h') at' in let n = none_yet k in let b : grip_of k h' ≡ 0 = ap bit (ne_eqb (slot_in w) k (λ t. ne (sym t ∙ there))) in omega arith in
-      let count = count-le s q a.slot in
-      let cur : w ≡ current_word a.version a.slot a.root (holders a.slot s.views) = q.current in
-      let next : (w + 1) % 2 ^ 64 ≡ current_word a.version a.slot a.root (holders a.slot vs) = omega arith in
-      let last = q.history.latest in
+      let here : holders a.slot views ≡ holders a.slot state.views + 1 =
+      let e = total-set (pass_sum (grip_of a.slot)) state.views id (Reader h) (Reader h') at' in let n = none_yet a.slot in let b : grip_of a.slot h' ≡ 1 = ap bit (eq-eqb (slot_in w) a.slot there) in omega arith in
+      let else : (k : ℕ) → k ≢ a.slot → holders k views ≡ holders k state.views = λ k ne.
+      let e = total-set (pass_sum (grip_of k)) state.views id (Reader h) (Reader h') at' in let n = none_yet k in let b : grip_of k h' ≡ 0 = ap bit (ne_eqb (slot_in w) k (λ t. ne (sym t ∙ there))) in omega arith in
+      let count = count-le state rule a.slot in
+      let cur : w ≡ current_word a.version a.slot a.root (holders a.slot state.views) = rule.current in
+      let next : (w + 1) % 2 ^ 64 ≡ current_word a.version a.slot a.root (holders a.slot views) = omega arith in
+      let last = rule.history.latest in
       let t : TakenVersion = record { version = version_in w; root = root_in w } in
       let had : HasTakenVersion a.history t = (last.0, last.1, last.3, last.4 ∙ sym now, last.5 ∙ sym root) in
-      let bears : (slot_at a (slot_in w)).version ≡ version_in w = ap (λ (k : ℕ). (slot_at a k).version) there ∙ (q.bears ∙ sym now) in (
+      let bears : (slot_at a (slot_in w)).version ≡ version_in w = ap (λ (k : ℕ). (slot_at a k).version) there ∙ (rule.bears ∙ sym now) in (
         Reader h',
         keeps,
         tt,
-        reader_step s q id h h' (set s.words 0 ((w + 1) % 2 ^ 64)) at' (length-set s.words 0 ((w + 1) % 2 ^ 64)) refl
+        reader_step state rule id h h' (set state.words 0 ((w + 1) % 2 ^ 64)) at' (length-set state.words 0 ((w + 1) % 2 ^ 64)) refl
             (record {
               told = mine.told;
               past = omega arith;
@@ -160,42 +160,42 @@ module _ (key : Opening) where
                 held = λ (g : TakenVersion) e. let same : t ≡ g = cc in subst (HasTakenVersion a.history) same had;
               };
             })
-            (λ i l. get_or-set_other s.words 0 i ((w + 1) % 2 ^ 64) 0 (omega arith))
-            (get_or-set_same s.words 0 ((w + 1) % 2 ^ 64) 0 (word-there s q 0 (omega arith)) ∙ next)
-            (get_or-set_other s.words 0 (a.slot + 1) ((w + 1) % 2 ^ 64) 0 (omega arith) ∙ q.fresh)
-            (λ k l ne. q.leavers k l ne ∙ cc (else k ne, get_or-set_other s.words 0 (k + 1) ((w + 1) % 2 ^ 64) 0 (omega arith)))
+            (λ i l. get_or-set_other state.words 0 i ((w + 1) % 2 ^ 64) 0 (omega arith))
+            (get_or-set_same state.words 0 ((w + 1) % 2 ^ 64) 0 (word-there state rule 0 (omega arith)) ∙ next)
+            (get_or-set_other state.words 0 (a.slot + 1) ((w + 1) % 2 ^ 64) 0 (omega arith) ∙ rule.fresh)
+            (λ k l ne. rule.leavers k l ne ∙ cc (else k ne, get_or-set_other state.words 0 (k + 1) ((w + 1) % 2 ^ 64) 0 (omega arith)))
             (λ k ne. let e = else k ne in omega arith),
-        (refl, omega arith, (let n : h.notes.sizes.readers ≡ key.sizes.readers = ap (λ z. z.readers) mine.told in omega arith)),
+        (refl, omega arith, (let n : h.notes.sizes.readers ≡ key.sizes.readers = ap (λ z. z.readers) mine.told in omega arith), refl),
       )
 
   leaves_one : (slots id : ℕ) (me : SeatView) (t : TakenVersion) (v : ℕ) → me.0 ≡ Reader (hold_of me.0) → (hold_of me.0).notes.held ≡ Some t → (hold_of me.0).notes.latest ≡ Some v → t.version < v
       → Allows (RegisterRule key) slots id me ((hold_of me.0).slot + 1) (λ n. (n + 1) % 2 ^ 64) (IsLeave (step slots ((hold_of me.0).slot + 1) 1 0 none) me)
-  leaves_one slots id me t v is has saw newer s q deep at small =
+  leaves_one slots id me t v is has saw newer state rule deep at small =
       let h : Hold = hold_of me.0 in
-      let at' : get_elem? s.views id ≡ some (Reader h) = at ∙ ap some is in
-      let w : ℕ = get_or s.words (h.slot + 1) 0 in
+      let at' : get_elem? state.views id ≡ some (Reader h) = at ∙ ap some is in
+      let w : ℕ = get_or state.words (h.slot + 1) 0 in
       let h' : Hold = after_leave h in
-      let a : Account = q.account in
-      let vs : List View = set s.views id (Reader h') in
-      let mine = q.each_seat id (Reader h) at' in
+      let a : Account = rule.account in
+      let views : List View = set state.views id (Reader h') in
+      let mine = rule.each_seat id (Reader h) at' in
       let past : v ≤ a.version = mine.recent v saw in
       let borne = mine.borne t has in
-      let bears = q.bears in
+      let bears = rule.bears in
       let apart : h.slot ≢ a.slot = λ same. let e : t.version ≡ a.version = sym borne.1 ∙ (ap (λ (k : ℕ). (slot_at a k).version) same ∙ bears) in omega arith in
       let before : (k : ℕ) → grip_of k h ≡ bit (eqb h.slot k) = λ k. ap (λ (o : Option TakenVersion). grip k o h.slot) has in
-      let here : holders h.slot vs + 1 ≡ holders h.slot s.views =
-      let e = total-set (pass_sum (grip_of h.slot)) s.views id (Reader h) (Reader h') at' in let b = before h.slot ∙ ap bit (eq-eqb h.slot h.slot refl) in omega arith in
-      let else : (k : ℕ) → k ≢ h.slot → holders k vs ≡ holders k s.views = λ k ne.
-      let e = total-set (pass_sum (grip_of k)) s.views id (Reader h) (Reader h') at' in let b = before k ∙ ap bit (ne_eqb h.slot k (λ t. ne (sym t))) in omega arith in
-      let leavers = q.leavers h.slot borne.0 apart in
-      let few = q.few in
-      let low = q.starts h.slot in
+      let here : holders h.slot views + 1 ≡ holders h.slot state.views =
+      let e = total-set (pass_sum (grip_of h.slot)) state.views id (Reader h) (Reader h') at' in let b = before h.slot ∙ ap bit (eq-eqb h.slot h.slot refl) in omega arith in
+      let else : (k : ℕ) → k ≢ h.slot → holders k views ≡ holders k state.views = λ k ne.
+      let e = total-set (pass_sum (grip_of k)) state.views id (Reader h) (Reader h') at' in let b = before k ∙ ap bit (ne_eqb h.slot k (λ t. ne (sym t))) in omega arith in
+      let leavers = rule.leavers h.slot borne.0 apart in
+      let few = rule.few in
+      let low = rule.starts h.slot in
       let next : (w + 1) % 2 ^ 64 ≡ w + 1 = omega arith in
       let inside = borne.0 in (
         Reader h',
         keeps,
         tt,
-        reader_step s q id h h' (set s.words (h.slot + 1) ((w + 1) % 2 ^ 64)) at' (length-set s.words (h.slot + 1) ((w + 1) % 2 ^ 64)) refl
+        reader_step state rule id h h' (set state.words (h.slot + 1) ((w + 1) % 2 ^ 64)) at' (length-set state.words (h.slot + 1) ((w + 1) % 2 ^ 64)) refl
             (record {
               told = mine.told;
               past = mine.past;
@@ -203,17 +203,17 @@ module _ (key : Opening) where
               borne = λ (g : TakenVersion) e. absurd (none_some g e);
               agrees = record { looks = mine.agrees.looks; takes = mine.agrees.takes; held = λ (g : TakenVersion) e. absurd (none_some g e) };
             })
-            (λ i l. get_or-set_other s.words (h.slot + 1) i ((w + 1) % 2 ^ 64) 0 (omega arith))
-            (get_or-set_other s.words (h.slot + 1) 0 ((w + 1) % 2 ^ 64) 0 (omega arith) ∙ (q.current ∙ ap (current_word a.version a.slot a.root) (sym (else a.slot (λ e. apart (sym e))))))
-            (get_or-set_other s.words (h.slot + 1) (a.slot + 1) ((w + 1) % 2 ^ 64) 0 (λ e. apart (omega arith)) ∙ q.fresh)
+            (λ i l. get_or-set_other state.words (h.slot + 1) i ((w + 1) % 2 ^ 64) 0 (omega arith))
+            (get_or-set_other state.words (h.slot + 1) 0 ((w + 1) % 2 ^ 64) 0 (omega arith) ∙ (rule.current ∙ ap (current_word a.version a.slot a.root) (sym (else a.slot (λ e. apart (sym e))))))
+            (get_or-set_other state.words (h.slot + 1) (a.slot + 1) ((w + 1) % 2 ^ 64) 0 (λ e. apart (omega arith)) ∙ rule.fresh)
             (λ k l ne. dite (ℕ_discrete k h.slot)
-            (λ (e : k ≡ h.slot). subst (λ (j : ℕ). (slot_at a j).start ≡ get_or (set s.words (h.slot + 1) ((w + 1) % 2 ^ 64)) (j + 1) 0 + holders j vs) (sym e)
-            (let same = get_or-set_same s.words (h.slot + 1) ((w + 1) % 2 ^ 64) 0 (word-there s q (h.slot + 1) (omega arith)) in omega arith))
-            (λ (e : k ≢ h.slot). let other = get_or-set_other s.words (h.slot + 1) (k + 1) ((w + 1) % 2 ^ 64) 0 (λ t. e (omega arith)) in let f = else k e in let g = q.leavers k l ne in omega arith))
+            (λ (e : k ≡ h.slot). subst (λ (j : ℕ). (slot_at a j).start ≡ get_or (set state.words (h.slot + 1) ((w + 1) % 2 ^ 64)) (j + 1) 0 + holders j views) (sym e)
+            (let same = get_or-set_same state.words (h.slot + 1) ((w + 1) % 2 ^ 64) 0 (word-there state rule (h.slot + 1) (omega arith)) in omega arith))
+            (λ (e : k ≢ h.slot). let other = get_or-set_other state.words (h.slot + 1) (k + 1) ((w + 1) % 2 ^ 64) 0 (λ t. e (omega arith)) in let f = else k e in let g = rule.leavers k l ne in omega arith))
             (λ k ne. dite (ℕ_discrete k h.slot)
-            (λ (e : k ≡ h.slot). subst (λ (j : ℕ). holders j vs ≤ holders j s.views) (sym e) (omega arith))
+            (λ (e : k ≡ h.slot). subst (λ (j : ℕ). holders j views ≤ holders j state.views) (sym e) (omega arith))
             (λ (e : k ≢ h.slot). let f = else k e in omega arith)),
-        refl,
+        (refl, refl),
       )
 
   pub leaves : (slots id : ℕ) (me : SeatView) → me.0 ≡ Reader (hold_of me.0) → (o : Option TakenVersion) (l : Option ℕ) → (hold_of me.0).notes.held ≡ o → (hold_of me.0).notes.latest ≡ l

@@ -6,9 +6,10 @@ use Rattle.ft_shared.specs.declared.law.Notes.{Notes}
 use Rattle.ft_shared.specs.declared.law.Hold.{Hold}
 use Rattle.ft_shared.specs.declared.law.Slot.{Slot}
 use Rattle.ft_shared.specs.declared.law.Account.{Account}
+use Rattle.ft_shared.specs.declared.law.WordStep.TheVariants.{Load, Store, Swap}
 use Rattle.ft_shared.specs.declared.law.View.{View}
 use Rattle.ft_shared.specs.declared.law.View.TheVariants.{Reader, Writer}
-use Rattle.ft_shared.specs.Layout.{pool_at}
+use Rattle.ft_shared.specs.Layout.{current_at, leavers_at, pool_at}
 
 -- ---- slots
 
@@ -44,6 +45,7 @@ opening_account sizes version root pool = record {
   settled = [];
   history = record { version = version; root = root; pool = pool } ∷ [];
   pool = pool;
+  steps = [];
 }
 
 -- the same before any pass was made
@@ -62,6 +64,7 @@ new_notes sizes number = record {
   looks = [];
   takes = [];
   reads = [];
+  steps = [];
 }
 
 -- ---- behind a view
@@ -87,9 +90,14 @@ account_of view = account_or (opening_account no_sizes 0 0 []) view
 
 -- ---- scans
 
--- a scan begins
+-- a scan begins: one load of CURRENT
 abbrev pub after_begin : Account → Account
-after_begin account = record account { begun = true; scans = account.scans + 1; scan = [] }
+after_begin account = record account {
+  begun = true;
+  scans = account.scans + 1;
+  scan = [];
+  steps = account.steps ++ Load current_at ∷ [];
+}
 
 -- the slot that a scan looks at next
 abbrev pub next_slot : Account → ℕ
@@ -105,13 +113,14 @@ abbrev pub answer_of : Account → ℕ → ℕ → Option ℕ
 answer_of account slot gone =
     if is_free account slot gone then None else Some (slot_at account slot).version
 
--- the next slot was looked at, and the leavers were these
+-- the next slot was looked at by one load of its leavers, which were these
 abbrev pub after_scan : Account → ℕ → Account
 after_scan account gone = record account {
   gone = gone;
   scan = account.scan ++ answer_of account (next_slot account) gone ∷ [];
   slots = slice_set account.slots (next_slot account)
       (record (slot_at account (next_slot account)) { free = is_free account (next_slot account) gone });
+  steps = account.steps ++ Load (leavers_at (next_slot account)) ∷ [];
 }
 
 -- every slot was looked at since a scan began
@@ -120,13 +129,15 @@ IsWhole sizes account = (account.begun ≡ true) × (length account.scan ≡ siz
 
 -- ---- a publish
 
--- the leavers of the slot, and so its start, go to 0
+-- the leavers of the slot, and so its start, go to 0 by one store
 abbrev pub after_clear : Account → ℕ → Account
 after_clear account slot = record account {
   slots = slice_set account.slots slot (record (slot_at account slot) { start = 0 });
+  steps = account.steps ++ Store (leavers_at slot) ∷ [];
 }
 
--- the slot bears the next version; the slot that was current keeps how many had taken its version
+-- the slot bears the next version by one swap of CURRENT; the slot that was current keeps how many
+-- had taken its version
 abbrev pub after_publish : Account → ℕ → ℕ → ℕ → Account
 after_publish account slot root count = record account {
   version = account.version + 1;
@@ -139,4 +150,5 @@ after_publish account slot root count = record account {
   scan = [];
   history = account.history
       ++ record { version = account.version + 1; root = root; pool = account.pool } ∷ [];
+  steps = account.steps ++ Swap current_at ∷ [];
 }

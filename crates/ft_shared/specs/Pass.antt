@@ -1,11 +1,13 @@
 -- What contracts see of a register and of its passes.
-use Rattle.std.specs.Prelude.{◌≡◌, ◌≢◌, ℕ, zero, suc, ◌+◌, ◌<◌, ◌≤◌, true, List, [], ◌∷◌, ◌++◌, Some, None}
+use Rattle.std.specs.Prelude.{◌≡◌, ◌≢◌, ℕ, zero, suc, ◌+◌, ◌<◌, ◌≤◌, true, false, List, [], ◌∷◌, ◌++◌, Some, None}
 use Rattle.atomic_table.specs.Seated.{TableId}
 use Rattle.ft_shared.specs.declared.law.Sizes.{Sizes}
 use Rattle.ft_shared.specs.declared.law.TakenVersion.{TakenVersion}
 use Rattle.ft_shared.specs.declared.law.Notes.{Notes}
 use Rattle.ft_shared.specs.declared.law.Hold.{Hold}
 use Rattle.ft_shared.specs.declared.law.Account.{Account}
+use Rattle.ft_shared.specs.declared.law.WordStep.TheVariants.{Load, Add}
+use Rattle.ft_shared.specs.Layout.{current_at, leavers_at}
 use Rattle.ft_shared.specs.Account.{opening_account, new_notes, slot_at, after_clear, after_publish}
 
 -- Which register it is, and how large. A pass came from the register whose origin it has.
@@ -13,9 +15,11 @@ pub record Origin : Type 0 where
   pub table : TableId
   pub sizes : Sizes
 
+-- slot: that of the version which the pass took last
 pub record ReaderState : Type 0 where
   pub origin : Origin
   pub notes : Notes
+  pub slot : ℕ
 
 pub record WriterState : Type 0 where
   pub origin : Origin
@@ -26,6 +30,7 @@ abbrev pub reader_at : TableId → Hold → ReaderState
 reader_at table hold = record {
   origin = record { table = table; sizes = hold.notes.sizes };
   notes = hold.notes;
+  slot = hold.slot;
 }
 
 abbrev pub writer_at : TableId → Account → WriterState
@@ -43,40 +48,50 @@ opening_writer origin version root pool = record {
 
 -- a pass that was never used
 abbrev pub fresh_pass : Origin → ℕ → ReaderState
-fresh_pass origin number = record { origin = origin; notes = new_notes origin.sizes number }
+fresh_pass origin number = record {
+  origin = origin;
+  notes = new_notes origin.sizes number;
+  slot = 0;
+}
 
 -- passes that were never used, with the numbers below n
 abbrev pub fresh_passes : Origin → ℕ → List ReaderState
 fresh_passes origin zero = []
 fresh_passes origin (suc n) = fresh_passes origin n ++ fresh_pass origin n ∷ []
 
--- the look is noted, and what it gave is the greatest version seen
+-- the look is noted, and what it gave is the greatest version seen; it is one load of CURRENT
 abbrev pub note_look : Notes → ℕ → Notes
 note_look notes version = record notes {
   looks = notes.looks ++ version ∷ [];
   latest = Some version;
   seen = version;
+  steps = notes.steps ++ Load current_at ∷ [];
 }
 
--- the take is noted, and its version is held; no look came since
+-- the take is noted, and its version is held; no look came since. It is one addition to CURRENT
 abbrev pub note_take : Notes → TakenVersion → Notes
 note_take notes taken = record notes {
   takes = notes.takes ++ taken ∷ [];
   held = Some taken;
   latest = None;
   seen = taken.version;
+  steps = notes.steps ++ Add current_at ∷ [];
 }
 
--- no version is held
-abbrev pub note_leave : Notes → Notes
-note_leave notes = record notes { held = None }
+-- no version is held, by one addition to the leavers of its slot
+abbrev pub note_leave : Notes → ℕ → Notes
+note_leave notes slot = record notes {
+  held = None;
+  steps = notes.steps ++ Add (leavers_at slot) ∷ [];
+}
 
--- A publish: it chose a slot that was found free, and kept how many passes had taken the version
--- before
+-- A publish: it chose the first slot that was found free, and kept how many passes had taken the
+-- version before. It is one store to the leavers of that slot, and one swap of CURRENT.
 pub record Publishes (sizes : Sizes) (old new : Account) (root : ℕ) : Type 0 where
   pub slot : ℕ
   pub count : ℕ
   pub inside : (slot < sizes.readers + 2) × (slot ≢ old.slot)
   pub free : (slot_at old slot).free ≡ true
+  pub first : (earlier : ℕ) → earlier < slot → (slot_at old earlier).free ≡ false
   pub few : count ≤ sizes.readers
   pub made : new ≡ after_publish (after_clear old slot) slot root count

@@ -1,18 +1,26 @@
 -- What each kind of step tells the seat that makes it: of the step, the seat before, the number found and the seat after.
 use Rattle.std.specs.Prelude.{◌≡◌, ◌≢◌, ℕ, ◌+◌, ◌<◌, ◌≤◌, true, length}
-use Rattle.atomic_table.specs.Table.{Step}
+use Rattle.atomic_table.specs.Table.{Step, Allows}
+use Rattle.atomic_table.specs.Seated.{TableId}
+use Rattle.ft_shared.specs.declared.law.Opening.{Opening}
 use Rattle.ft_shared.specs.declared.law.Hold.{Hold}
 use Rattle.ft_shared.specs.declared.law.View.{View}
 use Rattle.ft_shared.specs.declared.law.View.TheVariants.{Spent, Reader, Writer}
-use Rattle.ft_shared.specs.Layout.{version_in, slot_in, root_in, count_in, leavers_at}
+use Rattle.ft_shared.specs.Layout.{current_at, leavers_at, version_in, slot_in, root_in, count_in}
 use Rattle.ft_shared.specs.Counts.{sum_below}
 use Rattle.ft_shared.specs.Account.{hold_of, account_of, slot_at, next_slot, is_free, new_notes, after_begin, after_scan, after_clear, after_publish}
-use Rattle.ft_shared.specs.Register.{SeatView, marks}
+use Rattle.ft_shared.specs.Register.{SeatView, RegisterRule, marks}
 use Rattle.ft_shared.specs.Pass.{note_look, note_take, note_leave}
 
 -- what a kind of step says of itself, the seat before, the number found and the seat after
 abbrev pub StepKind : Type 1
 StepKind = Step (Unit {0}) → SeatView → ℕ → SeatView → Type 0
+
+-- A seat of the table may step on a word, which becomes `change` of what it was: the rule stays kept, and the seat can be told this
+abbrev pub MayStep : Opening → TableId → TableId → ℕ → SeatView → ℕ → (ℕ → ℕ) → (ℕ → SeatView → Type 0) → Type 0
+MayStep key table home seat view word change told =
+    (home ≡ table) × (word < table.words)
+    × Allows (RegisterRule key) table.slots seat view word change told
 
 -- ---- a reader's steps
 
@@ -26,13 +34,14 @@ after_take hold word = record hold {
 }
 
 abbrev pub after_leave : Hold → Hold
-after_leave hold = record hold { notes = note_leave hold.notes }
+after_leave hold = record hold { notes = note_leave hold.notes hold.slot }
 
--- what it found is no older than what the pass had seen
+-- what it found in CURRENT is no older than what the pass had seen
 abbrev pub IsLook : StepKind
 IsLook step before found after =
     (after ≡ (Reader (after_look (hold_of before.0) found), before.1))
     × ((hold_of before.0).notes.seen ≤ version_in found)
+    × (step.word ≡ current_at)
 
 -- the same, and the slot is one of the register
 abbrev pub IsTake : StepKind
@@ -40,15 +49,19 @@ IsTake step before found after =
     (after ≡ (Reader (after_take (hold_of before.0) found), before.1))
     × ((hold_of before.0).notes.seen ≤ version_in found)
     × (slot_in found < (hold_of before.0).notes.sizes.readers + 2)
+    × (step.word ≡ current_at)
 
 abbrev pub IsLeave : StepKind
-IsLeave step before found after = after ≡ (Reader (after_leave (hold_of before.0)), before.1)
+IsLeave step before found after =
+    (after ≡ (Reader (after_leave (hold_of before.0)), before.1))
+    × (step.word ≡ leavers_at (hold_of before.0).slot)
 
 -- ---- the writer's steps
 
 abbrev pub IsScanBegin : StepKind
 IsScanBegin step before found after =
-    after ≡ (Writer (after_begin (account_of before.0)), before.1)
+    (after ≡ (Writer (after_begin (account_of before.0)), before.1))
+    × (step.word ≡ current_at)
 
 -- a slot that was found free before is found free again, and a whole scan finds at most as many slots held as there are readers
 abbrev pub IsSlotScan : StepKind
@@ -59,6 +72,7 @@ IsSlotScan step before found after =
     × (next_slot (account_of before.0) + 1 ≡ (account_of before.0).sizes.readers + 2
     → sum_below (marks (after_scan (account_of before.0) found)) ((account_of before.0).sizes.readers + 2)
     ≤ (account_of before.0).sizes.readers)
+    × (step.word ≡ leavers_at (next_slot (account_of before.0)))
 
 -- the slot is not the current one
 abbrev pub IsClear : StepKind
@@ -71,6 +85,7 @@ abbrev pub IsPublish : StepKind
 IsPublish step before found after =
     (after ≡ (Writer (after_publish (account_of before.0) (slot_in step.first) (root_in step.first) (count_in found)), before.1))
     × (count_in found ≤ (account_of before.0).sizes.readers)
+    × (step.word ≡ current_at)
 
 -- ---- a seat for a reader
 

@@ -3,14 +3,13 @@
 //! Of `Sizes`, `Opening` and `Slot` values are made. The other types are for contracts
 //! alone: a clause reads an array in them as a list of any length.
 
-use atomic_table::{Seat, Table, TableRule};
-use std::alloc::Global;
+use atomic_table::{Seat, TableRule};
 use std::snapshot::Snapshot;
 
 /// How large a register is.
 #[derive(Clone, Copy)]
 pub struct Sizes {
-    /// Segments of the pool, of 256 words each.
+    /// Segments of the pool, of 256 words each, 0 to 65,535.
     pub segments: u64,
     /// Reader's passes, 1 to 8.
     pub readers: u64,
@@ -31,24 +30,41 @@ pub(crate) struct Opening {
 /// A version of the history: its root segment, and the words of the whole pool as they
 /// were when it was published.
 pub struct PlacedVersion {
+    /// The version's number, 0 to 2^32 - 1.
     pub version: u64,
+    /// The number of its root segment, 0 to 65,535.
     pub root: u64,
+    /// 256 words for each segment of the pool, from segment 0 on.
     pub pool: [u64; 0],
 }
 
 /// A version that was taken, and its root segment.
 pub struct TakenVersion {
+    /// The version's number, 0 to 2^32 - 1.
     pub version: u64,
+    /// The number of its root segment, 0 to 65,535.
     pub root: u64,
 }
 
-/// A word that was read of a held version: by the pin of this root, if by one.
+/// A word that was read of a held version.
 pub struct WordRead {
+    /// The version that was held, 0 to 2^32 - 1.
     pub version: u64,
+    /// The root segment of the pin that it was read by, if by one.
     pub pin: Option<u64>,
+    /// The number of the segment, and the place of the word in it, 0 to 255.
     pub segment: u64,
     pub at: u64,
+    /// What was read.
     pub word: u64,
+}
+
+/// An atomic step, with the number of its word in the table.
+pub enum WordStep {
+    Load(u64),
+    Store(u64),
+    Swap(u64),
+    Add(u64),
 }
 
 /// What contracts see of a reader's pass.
@@ -56,7 +72,7 @@ pub struct Notes {
     pub sizes: Sizes,
     /// The pass's number, below the number of readers.
     pub number: u64,
-    /// The version that it holds.
+    /// The version that it holds, if it holds one.
     pub held: Option<TakenVersion>,
     /// What its latest look since the take gave.
     pub latest: Option<u64>,
@@ -66,20 +82,23 @@ pub struct Notes {
     pub looks: [u64; 0],
     pub takes: [TakenVersion; 0],
     pub reads: [WordRead; 0],
+    /// The atomic steps that it made, in their order.
+    pub steps: [WordStep; 0],
 }
 
 /// A reader's notes, and the slot that bears the version that it holds.
 pub struct Hold {
     pub notes: Notes,
+    /// The slot of the version that it took last, 0 to 9; 0 before the first take.
     pub slot: u64,
 }
 
 /// What the writer knows of a slot.
 #[derive(Clone, Copy)]
 pub struct Slot {
-    /// The version that it bears, or bore last.
+    /// The number of the version that it bears, or bore last.
     pub version: u32,
-    /// How many readers had taken that version when the next one was published.
+    /// How many readers had taken that version when the next one was published, 0 to 8.
     pub start: u8,
     /// Whether a scan found it free, and no publish has chosen it since.
     pub free: bool,
@@ -88,26 +107,29 @@ pub struct Slot {
 /// What contracts see of the writer's pass.
 pub struct Account {
     pub sizes: Sizes,
-    /// How many readers' passes were made.
+    /// How many readers' passes were made, 0 to 8.
     pub given: u64,
     /// The current version, its slot and its root segment.
     pub version: u64,
     pub slot: u64,
     pub root: u64,
+    /// What it knows of each of ten slots, of which readers + 2 are used.
     pub slots: [Slot; 0],
     /// Whether a scan has begun since the last publish, how many were begun in all,
     /// and the answers of this one: for each slot a version, or none where it was free.
     pub begun: bool,
     pub scans: u64,
     pub scan: [Option<u64>; 0],
-    /// The leavers that the latest step of a scan has loaded.
+    /// The leavers that the latest step of a scan has loaded, 0 to 8.
     pub gone: u64,
     /// What the readers held and had noted that have given up their passes.
     pub settled: [Hold; 0],
     /// The versions from the opening on.
     pub history: [PlacedVersion; 0],
-    /// The words of the pool as they were last written.
+    /// The words of the pool as they were last written, 256 for each segment.
     pub pool: [u64; 0],
+    /// The atomic steps that the pass made, in their order.
+    pub steps: [WordStep; 0],
 }
 
 /// What a seat of the table knows.
@@ -128,7 +150,5 @@ impl TableRule<(), View, Opening> for Law {
 
     ghost first = { λ key. Writer (first_account key) };
 }
-
-pub(crate) type Words = Table<(), View, Opening, Law, Global>;
 
 pub(crate) type Place = Seat<(), View>;

@@ -12,11 +12,12 @@ mod passes;
 mod plays;
 mod reader;
 mod shared;
+mod table;
 #[cfg(test)]
 mod tests;
 mod writer;
 
-pub use law::{Account, Hold, Notes, PlacedVersion, Sizes, Slot, TakenVersion, WordRead};
+pub use law::{Account, Hold, Notes, PlacedVersion, Sizes, Slot, TakenVersion, WordRead, WordStep};
 pub use passes::ReaderPasses;
 pub use reader::{Held, ReaderPass};
 pub use shared::{OpenFault, Shared};

@@ -8,11 +8,12 @@ ghost use Rattle.ft_shared.specs.Plays.{after_give};
 ghost use Rattle.ft_shared.specs.declared.law.View.TheVariants.{Writer};
 ghost use Rattle.ft_shared.specs.declared.shared.OpenFault.TheVariants.{PoolSmall, NoMemory};
 
-use crate::law::{Opening, Place, Sizes, Words};
+use crate::law::{Opening, Place, Sizes};
 use crate::passes::ReaderPasses;
 use crate::plays::Give;
 use crate::reader::ReaderPass;
 use crate::shared::{OpenFault, Shared};
+use crate::table::WordTable;
 use crate::writer::WriterPass;
 use std::alloc::{AllocError, Global};
 use std::snapshot::Snapshot;
@@ -84,7 +85,7 @@ impl Shared {
             root: root as u64,
             words: Snapshot::of(&all_words),
         };
-        let (table, mut place) = Words::of_words(alloc, all_words.as_slice(), &opening)?;
+        let (table, mut place) = WordTable::of_words(alloc, all_words.as_slice(), &opening)?;
         let shared = Shared {
             words: table,
             segments: sizes.segments as u16,
@@ -128,7 +129,7 @@ impl Shared {
         ensures writer { place.new.me ≡ (after_give place.old.me.0, []) }
         ensures pass { result ≡ fresh_pass self.now (account_of place.old.me.0).given }
     {
-        ReaderPass::first(self.words.shared.split_seat::<Give>(place))
+        ReaderPass::first(self.words.split_seat::<Give>(place))
     }
 }
 

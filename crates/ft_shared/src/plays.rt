@@ -2,9 +2,12 @@
 ghost use Rattle.ft_shared.specs.Plays.{IsLook, IsTake, IsLeave, IsScanBegin, IsSlotScan, IsClear, IsPublish, after_give, given_pass};
 
 use crate::law::View;
+use crate::table::{Adds, Loads, Stores, Swaps};
 use atomic_table::{Play, Split};
 
 pub(crate) struct Look;
+
+impl Loads for Look {}
 
 impl Play<(), View> for Look {
     ghost then = { IsLook };
@@ -12,11 +15,15 @@ impl Play<(), View> for Look {
 
 pub(crate) struct Take;
 
+impl Adds for Take {}
+
 impl Play<(), View> for Take {
     ghost then = { IsTake };
 }
 
 pub(crate) struct Leave;
+
+impl Adds for Leave {}
 
 impl Play<(), View> for Leave {
     ghost then = { IsLeave };
@@ -33,11 +40,15 @@ impl Split<View> for Give {
 
 pub(crate) struct BeginScan;
 
+impl Loads for BeginScan {}
+
 impl Play<(), View> for BeginScan {
     ghost then = { IsScanBegin };
 }
 
 pub(crate) struct ScanSlot;
+
+impl Loads for ScanSlot {}
 
 impl Play<(), View> for ScanSlot {
     ghost then = { IsSlotScan };
@@ -46,11 +57,15 @@ impl Play<(), View> for ScanSlot {
 /// The leavers of a free slot go to 0.
 pub(crate) struct Clear;
 
+impl Stores for Clear {}
+
 impl Play<(), View> for Clear {
     ghost then = { IsClear };
 }
 
 pub(crate) struct Publish;
+
+impl Swaps for Publish {}
 
 impl Play<(), View> for Publish {
     ghost then = { IsPublish };

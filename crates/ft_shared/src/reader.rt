@@ -14,9 +14,9 @@ use std::sync::ledger::Ledger;
 /// What `Shared::take` gives.
 #[derive(Clone, Copy, Debug, PartialEq, Eq)]
 pub struct Held {
-    /// The version that is now held.
+    /// The number of the version that is now held.
     pub version: u32,
-    /// Its root segment.
+    /// The number of its root segment, 0 to 65,535.
     pub root: u16,
 }
 
@@ -57,8 +57,7 @@ impl Shared {
         ensures later { pass.old.notes.seen ≤ result }
         ensures steps { steps.new ≡ steps.old + 1 }
     {
-        let word = self.words.shared.load::<Look>(&mut pass.place, 0);
-        steps.tick();
+        let word = self.words.load::<Look, L>(&mut pass.place, 0, steps);
         (word >> 32) as u32
     }
 
@@ -70,13 +69,15 @@ impl Shared {
         ensures noted { pass.new ≡ record pass.old {
           notes = note_take pass.old.notes
               (record { version = result.version; root = result.root });
+          slot = pass.new.slot;
         } }
         ensures later { pass.old.notes.seen ≤ result.version }
         ensures steps { steps.new ≡ steps.old + 1 }
     {
-        let word = self.words.shared.fetch_add::<Take>(&mut pass.place, 0, 1);
+        let word = self
+            .words
+            .fetch_add::<Take, L>(&mut pass.place, 0, 1, steps);
         pass.slot = ((word >> 24) % 256) as u8;
-        steps.tick();
         Held {
             version: (word >> 32) as u32,
             root: ((word >> 8) % 65536) as u16,
@@ -89,13 +90,11 @@ impl Shared {
         requires same { pass.old.origin ≡ self.now }
         requires newer { IsSomeAnd pass.old.notes.held
             (λ taken. IsSomeAnd pass.old.notes.latest (λ version. taken.version < version)) }
-        ensures noted { pass.new ≡ record pass.old { notes = note_leave pass.old.notes } }
+        ensures noted { pass.new ≡ record pass.old { notes = note_leave pass.old.notes pass.old.slot } }
         ensures steps { steps.new ≡ steps.old + 1 }
     {
         let gone = pass.slot as usize + 1;
         self.words
-            .shared
-            .fetch_add::<Leave>(&mut pass.place, gone, 1);
-        steps.tick();
+            .fetch_add::<Leave, L>(&mut pass.place, gone, 1, steps);
     }
 }

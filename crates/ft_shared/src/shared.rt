@@ -1,14 +1,14 @@
 //! The register as all threads see it.
 ghost use Rattle.std.specs.Prelude.{◌≡◌};
 
-use crate::law::Words;
+use crate::table::WordTable;
 use std::marker::Model;
 use thiserror::Error;
 
 /// The words that threads share. Contracts see which register it is, and its sizes.
 #[derive(Drop)]
 pub struct Shared {
-    pub(crate) words: Words,
+    pub(crate) words: WordTable,
     pub(crate) segments: u16,
 }
 
@@ -20,12 +20,12 @@ impl Model for Shared {
     ghost Value = { Origin };
 
     ghost view = { λ shared. record {
-      table = shared.words.shared.table_id;
-      sizes = shared.words.shared.key.sizes;
+      table = shared.words.table.shared.table_id;
+      sizes = shared.words.table.shared.key.sizes;
     } };
 
-    ghost invariant = { λ shared. (shared.words.shared.table_id.words ≡ word_count shared.words.shared.key.sizes)
-        × (shared.words.shared.key.sizes.segments ≡ shared.segments) };
+    ghost invariant = { λ shared. (shared.words.table.shared.table_id.words ≡ word_count shared.words.table.shared.key.sizes)
+        × (shared.words.table.shared.key.sizes.segments ≡ shared.segments) };
 }
 
 /// Why `Shared::open` refuses.

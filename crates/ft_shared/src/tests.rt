@@ -33,12 +33,6 @@ fn scan_all(shared: &Shared, writer: &mut WriterPass, slots: u8) -> [Option<u32>
     answers
 }
 
-/// One slot bears this version, the other is free.
-fn is_one(answers: &[Option<u32>; 10], version: u32) -> bool {
-    answers[1] == Some(version) && answers[2] == None
-        || answers[1] == None && answers[2] == Some(version)
-}
-
 fn follow_one<L: Ledger>(
     rt: &impl Abort,
     blank: Blank,
@@ -64,15 +58,15 @@ fn follow_one<L: Ledger>(
     assert!(rt; found[0] == Some(0) && found[1] == None && found[2] == None);
     assert_eq!(rt; shared.publish(writer, 0), 1);
     let found = scan_all(shared, writer, 3);
-    assert!(rt; found[0] == Some(0) && is_one(&found, 1));
+    assert!(rt; found[0] == Some(0) && found[1] == Some(1) && found[2] == None);
     assert_eq!(rt; shared.publish(writer, 0), 2);
     let found = scan_all(shared, writer, 3);
-    assert!(rt; found[0] == Some(0) && is_one(&found, 2));
+    assert!(rt; found[0] == Some(0) && found[1] == None && found[2] == Some(2));
     let seen = shared.look(reader, &mut steps);
     assert!(rt; seen == 2 && held.version == 0);
     shared.leave(reader, &mut steps);
     let found = scan_all(shared, writer, 3);
-    assert!(rt; found[0] == None && is_one(&found, 2));
+    assert!(rt; found[0] == None && found[1] == None && found[2] == Some(2));
     assert_eq!(rt;
         shared.take(reader, &mut steps),
         Held {

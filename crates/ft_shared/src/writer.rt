@@ -62,7 +62,7 @@ impl Shared {
         requires { pass.old.origin ≡ self.now }
         ensures { pass.new ≡ record pass.old { account = after_begin pass.old.account } }
     {
-        self.words.shared.load::<BeginScan>(&mut pass.place, 0);
+        self.words.scan_load::<BeginScan>(&mut pass.place, 0);
     }
 
     /// The version of the slot `slot` where it is current or was found held, and `None` where
@@ -84,10 +84,7 @@ impl Shared {
         ensures answer { result ≡ answer_of pass.old.account slot pass.new.account.gone }
     {
         let index = slot as usize;
-        let gone = self
-            .words
-            .shared
-            .load::<ScanSlot>(&mut pass.place, index + 1);
+        let gone = self.words.scan_load::<ScanSlot>(&mut pass.place, index + 1);
         let Slot { version, start, .. } = pass.slots[index];
         let is_free = slot != pass.slot && start as u64 == gone;
         pass.slots[index].free = is_free;
@@ -110,13 +107,12 @@ impl Shared {
     {
         let chosen = first_free(&pass.slots, pass.readers + 2);
         let index = chosen as usize;
-        let shared = &self.words.shared;
-        shared.store::<Clear>(&mut pass.place, index + 1, 0);
+        self.words.store::<Clear>(&mut pass.place, index + 1, 0);
         let version = pass.version + 1;
         let word = (version as u64) * 4_294_967_296
             + (chosen as u64) * 16_777_216
             + (root as u64) * 256;
-        let found = shared.swap::<Publish>(&mut pass.place, 0, word);
+        let found = self.words.swap::<Publish>(&mut pass.place, 0, word);
         pass.slots[pass.slot as usize].start = (found % 256) as u8;
         pass.slots[index] = Slot {
             version,

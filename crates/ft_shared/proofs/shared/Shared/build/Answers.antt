@@ -17,10 +17,10 @@ returns-clause-writer c =
     let key : Opening = record { sizes = c.args.sizes; version = c.args.version; root = c.args.root; words = c.of.result } in
     let pool : List ℕ = pool_of c.args.sizes.segments c.args.words.now in
     let made = c.in_ok-table.ensures in
-    let about : c.in_ok-table.table.shared.key ≡ key = made.5 in
+    let about : c.in_ok-table.table.table.shared.key ≡ key = made.5 in
     let first : account_of c.in_ok-table.place.me.0 ≡ first_account key = ap (λ m. account_of m.0) made.4 in
     let behind : drop (pool_at c.args.sizes) c.of.result.value.items ≡ pool = ap (λ v. drop (pool_at c.args.sizes) v.items) c.of.ensures ∙ (ap (drop (pool_at c.args.sizes)) c.in_ok-all_words.ensures ∙ opening-pool key pool) in
-    let account : account_of c.deal.new.place.me.0 ≡ opening_account c.in_ok-table.table.shared.key.sizes c.args.version c.args.root pool =
+    let account : account_of c.deal.new.place.me.0 ≡ opening_account c.in_ok-table.table.table.shared.key.sizes c.args.version c.args.root pool =
     ap (λ m. account_of m.0) c.in_ok-passes.ensures.writer ∙ (ap (λ (a : Account). record a { given = c.args.sizes.readers }) first ∙ (λ i. opening_account (sym about i).sizes c.args.version c.args.root (behind i))) in
     let table = c.in_ok-passes.ensures.place ∙ made.2 in
     c.first-writer.ensures ∙ (λ i. record { origin = record { table = table i; sizes = (account i).sizes }; account = account i })

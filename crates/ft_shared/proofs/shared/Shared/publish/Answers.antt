@@ -29,7 +29,7 @@ pub store-requires : goal.store-requires
 store-requires c =
     let w = c.pass.inside in
     let a = account_of w.place.me.0 in
-    let key = c.self.inside.words.shared.key in
+    let key = c.self.inside.words.table.shared.key in
     let k = c.first_free-chosen.result in
     let chosen = c.first_free-chosen.ensures.free in
     let inside = chosen.0 in
@@ -37,10 +37,10 @@ store-requires c =
     let ours : key.sizes.readers ≡ c.args.self.now.sizes.readers = ap (λ o. o.sizes.readers) c.self.view_is in
     let readers = c.pass.invariant.readers in
     let pins : ℕ = key.sizes.readers * key.sizes.channels in
-    let wide : c.self.inside.words.shared.table_id.words ≡ key.sizes.readers + 3 + pins + 256 * key.sizes.segments = c.self.invariant.0 in (
+    let wide : c.self.inside.words.table.shared.table_id.words ≡ key.sizes.readers + 3 + pins + 256 * key.sizes.segments = c.self.invariant.0 in (
       search rules,
       omega arith,
-      clears key c.self.inside.words.shared.table_id.slots w.place.id k w.place.me (ap (λ m. m.0) c.pass.invariant.seat) (omega arith)
+      clears key c.self.inside.words.table.shared.table_id.slots w.place.id k w.place.me (ap (λ m. m.0) c.pass.invariant.seat) (omega arith)
           (ap (λ (ss : List Slot). (slice_index_or ss k no_slot).free) c.pass.invariant.slots ∙ chosen.1),
     )
 
@@ -48,8 +48,8 @@ pub swap-found-requires : goal.swap-found-requires
 swap-found-requires c =
     let w = c.pass.inside in
     let a = account_of w.place.me.0 in
-    let key = c.self.inside.words.shared.key in
-    let slots = c.self.inside.words.shared.table_id.slots in
+    let key = c.self.inside.words.table.shared.key in
+    let slots = c.self.inside.words.table.shared.table_id.slots in
     let k = c.first_free-chosen.result in
     let chosen = c.first_free-chosen.ensures.free in
     let inside = chosen.0 in
@@ -58,8 +58,8 @@ swap-found-requires c =
     let ours : key.sizes.readers ≡ c.args.self.now.sizes.readers = ap (λ o. o.sizes.readers) c.self.view_is in
     let readers = c.pass.invariant.readers in
     let pins : ℕ = key.sizes.readers * key.sizes.channels in
-    let wide : c.self.inside.words.shared.table_id.words ≡ key.sizes.readers + 3 + pins + 256 * key.sizes.segments = c.self.invariant.0 in
-    let me = c.store.new.seat.me in
+    let wide : c.self.inside.words.table.shared.table_id.words ≡ key.sizes.readers + 3 + pins + 256 * key.sizes.segments = c.self.invariant.0 in
+    let me = c.store.new.place.me in
     let now : me ≡ (Writer (after_clear a k), []) = (c.store.ensures.2 k refl).0 ∙ ap (λ m. (Writer (after_clear a k), m.1)) c.pass.invariant.seat in
     let e : account_of me.0 ≡ after_clear a k = ap (λ m. account_of m.0) now in
     let bare : Slot = record (slot_at a k) { start = 0 } in
@@ -74,8 +74,8 @@ swap-found-requires c =
     let word : current_word ((account_of me.0).version + 1) k c.args.root 0 ≡ (w.version + 1) * 4294967296 + k * 16777216 + c.args.root * 256 = omega arith in (
       search rules,
       omega arith,
-      subst (λ (x : ℕ). Allows (RegisterRule key) slots c.store.new.seat.id me 0 (λ _. x) (IsPublish (step slots 0 x 0 none) me)) word
-          (publishes key slots c.store.new.seat.id k c.args.root me (ap (λ m. m.0) (seated _ _ now)) (omega arith) (omega arith) free start (omega arith) (omega arith)),
+      subst (λ (x : ℕ). Allows (RegisterRule key) slots c.store.new.place.id me 0 (λ _. x) (IsPublish (step slots 0 x 0 none) me)) word
+          (publishes key slots c.store.new.place.id k c.args.root me (ap (λ m. m.0) (seated _ _ now)) (omega arith) (omega arith) free start (omega arith) (omega arith)),
     )
 
 pub invariant_of-pass : goal.invariant_of-pass
@@ -85,8 +85,8 @@ invariant_of-pass c =
     let k = c.first_free-chosen.result in
     let chosen = c.first_free-chosen.ensures.free in
     let inside = chosen.0 in
-    let mid = c.store.new.seat.me in
-    let fin = c.swap-found.new.seat.me in
+    let mid = c.store.new.place.me in
+    let fin = c.swap-found.new.place.me in
     let readers = c.pass.invariant.readers in
     let version = c.pass.invariant.version in
     let now : mid ≡ (Writer (after_clear a k), []) = (c.store.ensures.2 k refl).0 ∙ ap (λ m. (Writer (after_clear a k), m.1)) c.pass.invariant.seat in
@@ -114,8 +114,8 @@ returns-clause-published c =
     let k = c.first_free-chosen.result in
     let chosen = c.first_free-chosen.ensures.free in
     let inside = chosen.0 in
-    let mid = c.store.new.seat.me in
-    let fin = c.swap-found.new.seat.me in
+    let mid = c.store.new.place.me in
+    let fin = c.swap-found.new.place.me in
     let readers = c.pass.invariant.readers in
     let now : mid ≡ (Writer (after_clear a k), []) = (c.store.ensures.2 k refl).0 ∙ ap (λ m. (Writer (after_clear a k), m.1)) c.pass.invariant.seat in
     let word : (w.version + 1) * 4294967296 + k * 16777216 + c.args.root * 256 ≡ current_word (w.version + 1) k c.args.root 0 = omega arith in
@@ -129,6 +129,7 @@ returns-clause-published c =
       count = count_in c.swap-found.result;
       inside = (omega arith, λ t. (c.store.ensures.2 k refl).1 (t ∙ ap (λ (z : Account). z.slot) (sym was)));
       free = ap (λ (z : Account). (slot_at z k).free) (sym was) ∙ (ap (λ (ss : List Slot). (slice_index_or ss k no_slot).free) c.pass.invariant.slots ∙ chosen.1);
+      first = λ j less. ap (λ (z : Account). (slot_at z j).free) (sym was) ∙ (ap (λ (ss : List Slot). (slice_index_or ss j no_slot).free) c.pass.invariant.slots ∙ c.first_free-chosen.ensures.first j less);
       few = omega arith;
       made = ap (λ m. account_of m.0) done ∙ ap (λ (z : Account). after_publish (after_clear z k) k c.args.root (count_in c.swap-found.result)) was;
     }
