@@ -39,7 +39,8 @@ fn publish_next(shared: &Shared, writer: &mut WriterPass) -> u32
     requires readers { shared.now.sizes.readers ≡ 8 }
     requires room { writer.old.account.version < 4294967295 }
     ensures same { writer.new.origin ≡ writer.old.origin }
-    ensures version { (result ≡ writer.old.account.version + 1) × (writer.new.account.version ≡ result) }
+    ensures version { (result ≡ writer.old.account.version + 1)
+        × (writer.new.account.version ≡ result) }
 {
     shared.begin_scan(writer);
     for k in 0..10 {
@@ -71,7 +72,8 @@ fn turn_once<L: Ledger>(
     requires readers { shared.now.sizes.readers ≡ 8 }
     requires room { writer.old.account.version < 4294967295 }
     requires free { reader.old.notes.held ≡ None }
-    ensures same { (writer.new.origin ≡ writer.old.origin) × (reader.new.origin ≡ reader.old.origin) }
+    ensures same { (writer.new.origin ≡ writer.old.origin)
+        × (reader.new.origin ≡ reader.old.origin) }
     ensures version { writer.new.account.version ≡ writer.old.account.version + 1 }
     ensures free { IsTrue result → reader.new.notes.held ≡ None }
 {

@@ -11,7 +11,8 @@ use ft_types::{SampleHead, SongView, Voice};
 
 /// Makes all sums silent.
 fn silence(sums: &mut [Sides])
-    ensures silent { (k : ℕ) → k < length sums.old → get_or sums.new k mixing.silent_sides ≡ mixing.silent_sides }
+    ensures silent { (k : ℕ) → k < length sums.old
+        → get_or sums.new k mixing.silent_sides ≡ mixing.silent_sides }
     ensures many { length sums.new ≡ length sums.old }
 {
     for sides in sums.iter_mut() {
@@ -21,12 +22,15 @@ fn silence(sums: &mut [Sides])
 
 /// Adds all voices to silent sums of the frames of their tick from `first` on.
 fn add_voices<V: SongView>(view: &mut V, voices: &[Voice], first: u32, sums: &mut [Sides])
-    requires voices { All (mixing.IsMixed (V.keeps view.old) (length (V.holds view.old))) voices.now }
+    requires voices {
+        All (mixing.IsMixed (V.keeps view.old) (length (V.holds view.old))) voices.now }
     requires few { length voices.now ≤ 32 }
     requires frames { first + length sums.old ≤ 3751 }
-    requires silent { (k : ℕ) → k < length sums.old → get_or sums.old k mixing.silent_sides ≡ mixing.silent_sides }
-    ensures sums { mixing.Tells V.shows V.shown view.old view.new (λ shown. (k : ℕ) → k < length sums.old
-        → get_or sums.new k mixing.silent_sides ≡ mixing.all_sides (first + k) shown.kept voices.now) }
+    requires silent { (k : ℕ) → k < length sums.old
+        → get_or sums.old k mixing.silent_sides ≡ mixing.silent_sides }
+    ensures sums { mixing.Tells V.shows V.shown view.old view.new (λ shown.
+        (k : ℕ) → k < length sums.old → get_or sums.new k mixing.silent_sides
+        ≡ mixing.all_sides (first + k) shown.kept voices.now) }
     ensures many { length sums.new ≡ length sums.old }
     ensures holds { V.holds view.new ≡ V.holds view.old }
     ensures keeps { (c : ℕ) (h : SampleHead) → V.keeps view.old c h → V.keeps view.new c h }
@@ -82,11 +86,13 @@ fn fill_block<V: SongView>(
     sums: &mut [Sides],
     out: &mut [i16],
 )
-    requires voices { All (mixing.IsMixed (V.keeps view.old) (length (V.holds view.old))) voices.now }
+    requires voices {
+        All (mixing.IsMixed (V.keeps view.old) (length (V.holds view.old))) voices.now }
     requires few { length voices.now ≤ 32 }
     requires frames { first + length sums.old ≤ 3751 }
     requires room { 2 * (first + length sums.old) ≤ length out.old }
-    ensures frames { mixing.Tells V.shows V.shown view.old view.new (λ shown. (k : ℕ) → k < length sums.old
+    ensures frames { mixing.Tells V.shows V.shown view.old view.new (λ shown.
+        (k : ℕ) → k < length sums.old
         → mixing.IsFrame (mixing.all_sides (first + k) shown.kept voices.now) (first + k) out.new) }
     ensures before { (j : ℕ) → j < 2 * first → get_or out.new j (pos 0) ≡ get_or out.old j (pos 0) }
     ensures many { length out.new ≡ length out.old }
@@ -114,7 +120,8 @@ fn block_len(first: usize, frames: usize) -> usize
 
 /// Writes the sound of voices over the whole of `out`, left and right in turn.
 pub fn fill<V: SongView>(view: &mut V, voices: &[Voice], out: &mut [i16])
-    requires voices { All (mixing.IsMixed (V.keeps view.old) (length (V.holds view.old))) voices.now }
+    requires voices {
+        All (mixing.IsMixed (V.keeps view.old) (length (V.holds view.old))) voices.now }
     requires few { length voices.now ≤ 32 }
     requires even { length out.old % 2 ≡ 0 }
     requires room { length out.old ≤ 7502 }

@@ -1,7 +1,8 @@
 //! The mixer: voices over any view become the frames of a tick.
 //!
-//! A voice adds the line between the two frames around its position, times a gain on each side; sums
-//! are clipped once. Frames are summed in blocks, on the mixer's own stack, and nothing allocates.
+//! A voice adds the line between the two frames around its position, times a gain on each side;
+//! sums are clipped once. Frames are summed in blocks, on the mixer's own stack, and nothing
+//! allocates.
 #![tactic(auto)]
 
 mod block;

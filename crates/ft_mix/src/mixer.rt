@@ -16,22 +16,26 @@ use ft_types::{SampleHead, SongView, Voice};
 /// those that are over: their channels keep nothing any more. `out` has two numbers a frame, left
 /// and right in turn, and at most 3,751 frames.
 pub fn mix<V: SongView>(view: &mut V, voices: &mut ArrayVec<Voice, 32>, out: &mut [i16])
-    requires voices { All (mixing.IsMixed (V.keeps view.old) (length (V.holds view.old))) voices.old.items }
+    requires voices {
+        All (mixing.IsMixed (V.keeps view.old) (length (V.holds view.old))) voices.old.items }
     requires even { length out.old % 2 ≡ 0 }
     requires room { length out.old ≤ 7502 }
     ensures sound { (w : V.World) → V.shows view.new w → V.shows view.old w
         × (V.shown view.new w
         ≡ sound.shown_after (length out.old / 2) voices.old.items (V.shown view.old w))
-        × (out.new ≡ sound.sound_of_voices (V.shown view.old w).kept voices.old.items (length out.old / 2)) }
+        × (out.new
+        ≡ sound.sound_of_voices (V.shown view.old w).kept voices.old.items (length out.old / 2)) }
     ensures voices { voices.new.items ≡ sound.voices_after (length out.old / 2) voices.old.items }
     ensures range { All IsVoiceInRange voices.new.items }
-    ensures ascend { (low high : ℕ) → IsAscending low high voices.old.items → IsAscending low high voices.new.items }
+    ensures ascend { (low high : ℕ) → IsAscending low high voices.old.items
+        → IsAscending low high voices.new.items }
     ensures mixed { (low high : ℕ) → IsAscending low high voices.old.items
         → All (mixing.IsMixed (V.keeps view.new) (length (V.holds view.new))) voices.new.items }
     ensures holds { V.holds view.new
         ≡ sound.holds_after (length out.old / 2) voices.old.items (V.holds view.old) }
     ensures wide { length (V.holds view.new) ≡ length (V.holds view.old) }
-    ensures keeps { (c : ℕ) (h : SampleHead) → mixing.SoundsOn (length out.old / 2) voices.old.items c
+    ensures keeps { (c : ℕ) (h : SampleHead)
+        → mixing.SoundsOn (length out.old / 2) voices.old.items c
         → V.keeps view.old c h → V.keeps view.new c h }
     ensures many { length out.new ≡ length out.old }
     ensures work { (V.work view.old ≤ V.work view.new) × (V.work view.new ≤ V.work view.old

@@ -52,8 +52,8 @@ fn pair_at<V: SongView>(view: &mut V, channel: u8, head: &SampleHead, at: u32) -
     Pair { at, first, second }
 }
 
-/// The same, where the values of a pair before are at hand: for the next pair the view is asked only
-/// for its second value.
+/// The same, where the values of a pair before are at hand: for the next pair the view is asked
+/// only for its second value.
 pub fn pair_from<V: SongView>(
     view: &mut V,
     channel: u8,

@@ -10,8 +10,8 @@ use crate::pair::pair_from;
 use crate::sides::Sides;
 use ft_types::{SampleHead, SongView, Voice};
 
-/// The line on which a channel's voice stands at a position: the one at hand up to its end, and then
-/// the next, for which the view is asked.
+/// The line on which a channel's voice stands at a position: the one at hand up to its end, and
+/// then the next, for which the view is asked.
 fn line_at<V: SongView>(view: &mut V, voice: Voice, line: Line, position: u64) -> Line
     requires channel { voice.channel < length (V.holds view.old) }
     requires kept { V.keeps view.old voice.channel voice.head }
@@ -42,10 +42,12 @@ pub fn add_voice<V: SongView>(view: &mut V, voice: Voice, first: u32, sums: &mut
     requires voice { mixing.IsMixed (V.keeps view.old) (length (V.holds view.old)) voice }
     requires frames { first + length sums.old ≤ 3751 }
     requires room { All (mixing.IsLoud 31) sums.old }
-    ensures sums { mixing.Tells V.shows V.shown view.old view.new (λ shown. (k : ℕ) → k < length sums.old
-        → get_or sums.new k mixing.silent_sides ≡ mixing.plus (get_or sums.old k mixing.silent_sides)
+    ensures sums { mixing.Tells V.shows V.shown view.old view.new (λ shown.
+        (k : ℕ) → k < length sums.old → get_or sums.new k mixing.silent_sides
+        ≡ mixing.plus (get_or sums.old k mixing.silent_sides)
         (mixing.voice_sides (first + k) (get_or shown.kept voice.channel None) voice)) }
-    ensures loud { (n k : ℕ) → k < length sums.old → mixing.IsLoud n (get_or sums.old k mixing.silent_sides)
+    ensures loud { (n k : ℕ) → k < length sums.old
+        → mixing.IsLoud n (get_or sums.old k mixing.silent_sides)
         → mixing.IsLoud (n + 1) (get_or sums.new k mixing.silent_sides) }
     ensures many { length sums.new ≡ length sums.old }
     ensures holds { V.holds view.new ≡ V.holds view.old }

@@ -53,8 +53,8 @@ fn is_copied(alloc: Global, from: &[Change], to: &[Change]) -> Result<bool, Allo
 
 #[test]
 fn songs_are_copied_as_their_canonical_bytes(rt: HostRuntime) {
-    for (from, to) in COPIES.iter() {
-        assert!(rt; is_copied(rt.alloc(), from, to) == Ok(true), "{from:?}");
+    for (n, (from, to)) in COPIES.iter().enumerate() {
+        assert!(rt; is_copied(rt.alloc(), from, to) == Ok(true), "copy {n}");
     }
 }
 

@@ -40,7 +40,8 @@ impl Shared {
         requires root { root < length words.now / 256 }
         ensures small { segments < length words.now / 256
             → IsErrOf result (PoolSmall (length words.now / 256) segments) }
-        ensures memory { length words.now / 256 ≤ segments → IfErr result (λ fault. fault ≡ NoMemory) }
+        ensures memory { length words.now / 256 ≤ segments
+            → IfErr result (λ fault. fault ≡ NoMemory) }
         ensures sizes { IfOk result (λ made. made.0.sizes
             ≡ record { segments = segments; readers = readers; channels = channels }) }
         ensures writer { IfOk result (λ made. made.1

@@ -90,7 +90,8 @@ impl Shared {
         requires same { pass.old.origin ≡ self.now }
         requires newer { IsSomeAnd pass.old.notes.held
             (λ taken. IsSomeAnd pass.old.notes.latest (λ version. taken.version < version)) }
-        ensures noted { pass.new ≡ record pass.old { notes = note_leave pass.old.notes pass.old.slot } }
+        ensures noted { pass.new
+            ≡ record pass.old { notes = note_leave pass.old.notes pass.old.slot } }
         ensures steps { steps.new ≡ steps.old + 1 }
     {
         let gone = pass.slot as usize + 1;

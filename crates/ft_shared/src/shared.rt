@@ -24,7 +24,8 @@ impl Model for Shared {
       sizes = shared.words.table.shared.key.sizes;
     } };
 
-    ghost invariant = { λ shared. (shared.words.table.shared.table_id.words ≡ word_count shared.words.table.shared.key.sizes)
+    ghost invariant = { λ shared. (shared.words.table.shared.table_id.words
+        ≡ word_count shared.words.table.shared.key.sizes)
         × (shared.words.table.shared.key.sizes.segments ≡ shared.segments) };
 }
 

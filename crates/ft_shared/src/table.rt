@@ -76,8 +76,8 @@ impl WordTable {
         word: usize,
         steps: &mut Steps<L>,
     ) -> u64
-        requires { MayStep self.now.table.shared.key self.now.table.shared.table_id place.old.table_id
-            place.old.id place.old.me word (λ n. n)
+        requires { MayStep self.now.table.shared.key self.now.table.shared.table_id
+            place.old.table_id place.old.id place.old.me word (λ n. n)
             (M.then (step self.now.table.shared.table_id.slots word 0 0 none) place.old.me) }
         ensures seat { (place.new.table_id ≡ place.old.table_id)
             × (place.new.id ≡ place.old.id)
@@ -92,8 +92,8 @@ impl WordTable {
 
     /// One load of the word by the writer, whose steps are not counted.
     pub(crate) fn scan_load<M: Play<(), View> + Loads>(&self, place: &mut Place, word: usize) -> u64
-        requires { MayStep self.now.table.shared.key self.now.table.shared.table_id place.old.table_id
-            place.old.id place.old.me word (λ n. n)
+        requires { MayStep self.now.table.shared.key self.now.table.shared.table_id
+            place.old.table_id place.old.id place.old.me word (λ n. n)
             (M.then (step self.now.table.shared.table_id.slots word 0 0 none) place.old.me) }
         ensures { (place.new.table_id ≡ place.old.table_id)
             × (place.new.id ≡ place.old.id)
@@ -105,8 +105,8 @@ impl WordTable {
 
     /// One store to the word by the writer.
     pub(crate) fn store<M: Play<(), View> + Stores>(&self, place: &mut Place, word: usize, new: u64)
-        requires { MayStep self.now.table.shared.key self.now.table.shared.table_id place.old.table_id
-            place.old.id place.old.me word (λ _. new)
+        requires { MayStep self.now.table.shared.key self.now.table.shared.table_id
+            place.old.table_id place.old.id place.old.me word (λ _. new)
             (λ _. M.then (step self.now.table.shared.table_id.slots word new 0 none)
             place.old.me new) }
         ensures { (place.new.table_id ≡ place.old.table_id)
@@ -124,8 +124,8 @@ impl WordTable {
         word: usize,
         new: u64,
     ) -> u64
-        requires { MayStep self.now.table.shared.key self.now.table.shared.table_id place.old.table_id
-            place.old.id place.old.me word (λ _. new)
+        requires { MayStep self.now.table.shared.key self.now.table.shared.table_id
+            place.old.table_id place.old.id place.old.me word (λ _. new)
             (M.then (step self.now.table.shared.table_id.slots word new 0 none) place.old.me) }
         ensures { (place.new.table_id ≡ place.old.table_id)
             × (place.new.id ≡ place.old.id)
@@ -143,8 +143,8 @@ impl WordTable {
         more: u64,
         steps: &mut Steps<L>,
     ) -> u64
-        requires { MayStep self.now.table.shared.key self.now.table.shared.table_id place.old.table_id
-            place.old.id place.old.me word (λ n. (n + more) % 2 ^ 64)
+        requires { MayStep self.now.table.shared.key self.now.table.shared.table_id
+            place.old.table_id place.old.id place.old.me word (λ n. (n + more) % 2 ^ 64)
             (M.then (step self.now.table.shared.table_id.slots word more 0 none) place.old.me) }
         ensures seat { (place.new.table_id ≡ place.old.table_id)
             × (place.new.id ≡ place.old.id)

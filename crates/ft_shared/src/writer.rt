@@ -36,7 +36,8 @@ impl WriterPass {
     pub(crate) fn first(place: Place, readers: u8, version: u32) -> WriterPass
         requires role { place.me ≡ (Writer (account_of place.me.0), []) }
         requires readers { (readers ≤ 8) × ((account_of place.me.0).sizes.readers ≡ readers) }
-        requires version { ((account_of place.me.0).version ≡ version) × ((account_of place.me.0).slot ≡ 0) }
+        requires version { ((account_of place.me.0).version ≡ version)
+            × ((account_of place.me.0).slot ≡ 0) }
         requires slots { (account_of place.me.0).slots ≡ replicate 10 (new_slot version) }
         requires none { (account_of place.me.0).begun ≡ false }
         ensures { result ≡ writer_at place.table_id (account_of place.me.0) }
@@ -76,7 +77,8 @@ impl Shared {
         requires slot { slot < self.now.sizes.readers + 2 }
         ensures none { IsNone result ↔ ((slot ≢ pass.old.account.slot)
             × ((slot_at pass.old.account slot).start ≡ pass.new.account.gone)) }
-        ensures some { IfSome result (λ version. version ≡ (slot_at pass.old.account slot).version) }
+        ensures some {
+            IfSome result (λ version. version ≡ (slot_at pass.old.account slot).version) }
         ensures free { (slot_at pass.old.account slot).free ≡ true → IsNone result }
         ensures noted { pass.new ≡ record pass.old {
           account = after_scan pass.old.account pass.new.account.gone;
@@ -127,10 +129,12 @@ impl Shared {
 
 /// The first free slot below `count`, of which there is one.
 fn first_free(slots: &[Slot; 10], count: u8) -> u8
-    requires some { (slot : ℕ) × (slot < count) × ((slice_index_or slots.now slot no_slot).free ≡ true) }
+    requires some { (slot : ℕ) × (slot < count)
+        × ((slice_index_or slots.now slot no_slot).free ≡ true) }
     requires few { count ≤ 10 }
     ensures free { (result < count) × ((slice_index_or slots.now result no_slot).free ≡ true) }
-    ensures first { (slot : ℕ) → slot < result → (slice_index_or slots.now slot no_slot).free ≡ false }
+    ensures first { (slot : ℕ) → slot < result
+        → (slice_index_or slots.now slot no_slot).free ≡ false }
 {
     for slot in 0..count {
         if slots[slot as usize].free {
