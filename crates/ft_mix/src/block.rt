@@ -22,8 +22,8 @@ fn silence(sums: &mut [Sides])
 
 /// Adds all voices to silent sums of the frames of their tick from `first` on.
 fn add_voices<V: SongView>(view: &mut V, voices: &[Voice], first: u32, sums: &mut [Sides])
-    requires voices {
-        All (mixing.IsMixed (V.keeps view.old) (length (V.holds view.old))) voices.now }
+    requires voices { All (mixing.IsMixed (V.keeps view.old) (length (V.holds view.old)))
+        voices.now }
     requires few { length voices.now ≤ 32 }
     requires frames { first + length sums.old ≤ 3751 }
     requires silent { (k : ℕ) → k < length sums.old
@@ -86,8 +86,8 @@ fn fill_block<V: SongView>(
     sums: &mut [Sides],
     out: &mut [i16],
 )
-    requires voices {
-        All (mixing.IsMixed (V.keeps view.old) (length (V.holds view.old))) voices.now }
+    requires voices { All (mixing.IsMixed (V.keeps view.old) (length (V.holds view.old)))
+        voices.now }
     requires few { length voices.now ≤ 32 }
     requires frames { first + length sums.old ≤ 3751 }
     requires room { 2 * (first + length sums.old) ≤ length out.old }
@@ -120,8 +120,8 @@ fn block_len(first: usize, frames: usize) -> usize
 
 /// Writes the sound of voices over the whole of `out`, left and right in turn.
 pub fn fill<V: SongView>(view: &mut V, voices: &[Voice], out: &mut [i16])
-    requires voices {
-        All (mixing.IsMixed (V.keeps view.old) (length (V.holds view.old))) voices.now }
+    requires voices { All (mixing.IsMixed (V.keeps view.old) (length (V.holds view.old)))
+        voices.now }
     requires few { length voices.now ≤ 32 }
     requires even { length out.old % 2 ≡ 0 }
     requires room { length out.old ≤ 7502 }

@@ -16,8 +16,8 @@ use ft_types::{SampleHead, SongView, Voice};
 /// those that are over: their channels keep nothing any more. `out` has two numbers a frame, left
 /// and right in turn, and at most 3,751 frames.
 pub fn mix<V: SongView>(view: &mut V, voices: &mut ArrayVec<Voice, 32>, out: &mut [i16])
-    requires voices {
-        All (mixing.IsMixed (V.keeps view.old) (length (V.holds view.old))) voices.old.items }
+    requires voices { All (mixing.IsMixed (V.keeps view.old) (length (V.holds view.old)))
+        voices.old.items }
     requires even { length out.old % 2 ≡ 0 }
     requires room { length out.old ≤ 7502 }
     ensures sound { (w : V.World) → V.shows view.new w → V.shows view.old w

@@ -52,8 +52,8 @@ fn settle_voice<V: SongView>(view: &mut V, voice: Voice, frames: u32, on: &mut A
 /// The voices that go on after so many frames, in their order. The channels of the others keep
 /// nothing any more.
 pub fn settle<V: SongView>(view: &mut V, voices: &[Voice], frames: u32) -> ArrayVec<Voice, 32>
-    requires voices {
-        All (mixing.IsMixed (V.keeps view.old) (length (V.holds view.old))) voices.now }
+    requires voices { All (mixing.IsMixed (V.keeps view.old) (length (V.holds view.old)))
+        voices.now }
     requires few { length voices.now ≤ 32 }
     requires frames { frames ≤ 3751 }
     ensures on { result.items ≡ sound.voices_after frames voices.now }

@@ -24,8 +24,7 @@ fn mix_front<V: SongView>(
     frames: u32,
     out: &mut [i16],
 )
-    requires voices {
-        All (IsMixed (V.keeps view.old) (length (V.holds view.old))) voices.old.items }
+    requires voices { All (IsMixed (V.keeps view.old) (length (V.holds view.old))) voices.old.items }
     requires few { frames ≤ 3750 }
     requires room { 2 * frames ≤ length out.old }
     ensures sound { (w : V.World) → V.shows view.new w → V.shows view.old w
