@@ -11,8 +11,8 @@ use ft_xmread::read_xm;
 use std::alloc::{AllocError, Global};
 use std::test::Fail;
 
-/// Steps from the song of one note, and what is read of the bytes behind them.
-static SPELLINGS: [(&[Step], Given); 70] = [
+/// Steps of the header from the song of one note, and what is read of the bytes behind them.
+static HEADERS: [(&[Step], Given); 24] = [
     (&[Put(76, 78, &[0, 0])], Tempo(1)),
     (&[Put(76, 78, &[1, 0])], Tempo(1)),
     (&[Put(76, 78, &[31, 0])], Tempo(31)),
@@ -77,6 +77,10 @@ static SPELLINGS: [(&[Step], Given); 70] = [
         &[Put(80, 336, &[7]), Put(60, 68, &[21, 0, 0, 0, 3, 0, 2, 0])],
         Orders(&[7, 0, 0], 2),
     ),
+];
+
+/// The same of its pattern.
+static PATTERNS: [(&[Step], Given); 22] = [
     // A note may be spelled plain or by a mask.
     (
         &[Put(343, 344, &[132]), Put(345, 348, &[0x31, 1, 0, 0, 0])],
@@ -175,6 +179,10 @@ static SPELLINGS: [(&[Step], Given); 70] = [
         &[Put(341, 343, &[0, 1]), Put(343, 475, &[0, 0])],
         First(256, [0, 0, 0, 0, 0]),
     ),
+];
+
+/// The same of its instrument, of bytes without meaning, and of surplus.
+static OTHERS: [(&[Step], Given); 24] = [
     // The head of an instrument is brought into range.
     (
         &[
@@ -292,8 +300,22 @@ pub fn first_wrong(alloc: Global, rows: &[(&[Step], Given)]) -> Result<Option<us
 }
 
 #[test]
-fn each_spelling_gives_its_module(rt: HostRuntime) -> Result<(), Fail> {
-    assert_eq!(rt; first_wrong(rt.alloc(), &SPELLINGS)?, None);
+fn each_header_gives_its_module(rt: HostRuntime) -> Result<(), Fail> {
+    assert_eq!(rt; first_wrong(rt.alloc(), &HEADERS)?, None);
+    Ok(())
+}
+
+#[test]
+fn each_pattern_gives_its_module(rt: HostRuntime) -> Result<(), Fail> {
+    assert_eq!(rt; first_wrong(rt.alloc(), &PATTERNS)?, None);
+    Ok(())
+}
+
+#[test]
+fn heads_of_instruments_and_bytes_without_meaning_give_their_modules(
+    rt: HostRuntime,
+) -> Result<(), Fail> {
+    assert_eq!(rt; first_wrong(rt.alloc(), &OTHERS)?, None);
     Ok(())
 }
 
