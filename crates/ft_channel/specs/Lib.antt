@@ -1,3 +1,4 @@
 pub mod Bounds
+pub mod Looping
 pub mod Starting
 pub mod Staying

@@ -1,16 +1,29 @@
 -- What the rules of one channel leave, whatever stands behind the view.
-use Rattle.std.specs.Prelude.{ℕ, ◌≡◌, List, [], get_or, set}
+use Rattle.std.specs.Prelude.{ℕ, ◌≡◌, ◌<◌, List, [], Option, None, Some, get_or, set}
+use Rattle.ft_types.specs.declared.voice.SampleHead.{SampleHead}
+use Rattle.ft_types.specs.declared.voice.Voice.{Voice}
 use Rattle.ft_replay.specs.declared.state.Channel.{Channel}
 use Rattle.ft_replay.specs.declared.state.Control.{Control}
-use Rattle.ft_replay.specs.Range.{IsChannelInRange}
+use Rattle.ft_replay.specs.Range.{IsChannelInRange, IsMemoryInRange, IsTimed}
 
--- on any channel whose state was in range, it is in range still
-abbrev pub StaysInRange : Channel → Channel → Type 0
-StaysInRange channel channel_after = (c : ℕ) → IsChannelInRange c channel → IsChannelInRange c channel_after
+-- ---- a channel
+
+-- the sample of a voice
+abbrev pub sample_of : Option Voice → Option SampleHead
+sample_of None = None
+sample_of (Some voice) = Some voice.head
+
+-- what was in range is in range still, and a voice sounds where one did, of the same sample
+pub record Stays (channel channel_after : Channel) : Type 0 where
+  pub memory : IsMemoryInRange channel → IsMemoryInRange channel_after
+  pub range : (c : ℕ) → IsChannelInRange c channel → IsChannelInRange c channel_after
+  pub sample : sample_of channel_after.voice ≡ sample_of channel.voice
 
 -- only this channel's words may be others
 abbrev pub WordsFor : ℕ → List (List ℕ) → List (List ℕ) → Type 0
 WordsFor c words words_after = words_after ≡ set words c (get_or words_after c [])
+
+-- ---- the control
 
 -- the place of the song, and the time that ticks carry, stay
 pub record StaysInPlace (control control_after : Control) : Type 0 where
@@ -19,3 +32,7 @@ pub record StaysInPlace (control control_after : Control) : Type 0 where
   pub tick : control_after.tick ≡ control.tick
   pub last : control_after.last_bpm ≡ control.last_bpm
   pub carry : control_after.carry ≡ control.carry
+
+-- at the first tick of a row its time stays in range
+abbrev pub StaysTimed : ℕ → Control → Control → Type 0
+StaysTimed c control control_after = (n : ℕ) → c < n → control.tick ≡ 0 → IsTimed n control → IsTimed n control_after

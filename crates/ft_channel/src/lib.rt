@@ -5,8 +5,17 @@
 #![tactic(auto)]
 
 mod anew;
+mod fine;
+mod key_off;
+mod memory;
 mod note;
+mod retriggers;
 mod row;
+mod rules;
+mod sequence;
+mod settings;
+mod slides;
+mod swings;
 mod volume;
 
 pub use row::{row_start, row_tick};

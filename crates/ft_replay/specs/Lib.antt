@@ -1,4 +1,12 @@
 pub mod State
+pub mod Effects
+pub mod Memory
+pub mod Slides
+pub mod Swings
+pub mod Retriggers
+pub mod Sequence
+pub mod VolumeColumn
+pub mod Rules
 pub mod Time
 pub mod Row
 pub mod Hearing

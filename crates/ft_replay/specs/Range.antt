@@ -38,6 +38,7 @@ pub record IsMemoryInRange (channel : Channel) : Type 0 where
   pub fade : channel.fade ≤ 32768
   pub loop_count : channel.loop_count ≤ 15
   pub memory : IsBytes 15 channel.memory
+  pub arp : channel.arp ≤ 15
 
 -- and of its voice, which is its own
 pub record IsChannelInRange (c : ℕ) (channel : Channel) : Type 0 where

@@ -1,5 +1,5 @@
 -- One tick of the whole state.
-use Rattle.std.specs.Prelude.{ℕ, zero, suc, ◌+◌, ◌*◌, ◌%◌, ◌==◌, pos, ℤ, false, List, map, length, get_or, set, nat_lt, if◌then◌else◌}
+use Rattle.std.specs.Prelude.{ℕ, zero, suc, ◌+◌, ◌*◌, ◌%◌, ◌==◌, ◌||◌, pos, ℤ, Bool, false, List, Option, None, Some, is_some, unwrap_or, map, length, get_or, set, nat_lt, if◌then◌else◌}
 use Rattle.ft_types.specs.declared.module.Module.{Module}
 use Rattle.ft_types.specs.Views.{cell_at, order_at, rows_at}
 use Rattle.ft_replay.specs.declared.state.Channel.{Channel}
@@ -91,8 +91,32 @@ after_rows version song state =
 
 -- ---- the next tick
 
-abbrev pub next_row : SequentialState → SequentialState
-next_row state = with_control (record state.control { tick = 0; delay = 0; row = state.control.row + 1 }) state
+-- the first row of a channel's loop
+abbrev pub loop_row_of : ℕ → SequentialState → ℕ
+loop_row_of c state = (get_or state.lanes c blank_lane).channel.loop_row
+
+-- a jump or a break leads to another order position, which it sets even where the number stays
+abbrev pub leads_on : Control → Bool
+leads_on control = is_some control.jump || is_some control.to_row
+
+-- the next row is the first of a loop that is still to be played; or else where a jump or a break
+-- leads, which is the first row where none is named, of the next order position where none is named;
+-- or else the row below
+abbrev pub row_by : Option ℕ → SequentialState → SequentialState
+row_by (Some c) state = with_control (record state.control { row = loop_row_of c state }) state
+row_by None state =
+    if leads_on state.control
+    then at_position (unwrap_or state.control.jump (state.control.pos + 1)) (unwrap_or state.control.to_row 0) state
+    else with_control (record state.control { row = state.control.row + 1 }) state
+
+-- a row begins: nothing is pending any more
+abbrev pub at_first_tick : Control → Control
+at_first_tick control = record control { tick = 0; delay = 0; jump = None; to_row = None; back = None }
+
+unfoldable pub next_row : SequentialState → SequentialState
+next_row state =
+    let next = row_by state.control.back state in
+    with_control (at_first_tick next.control) next
 
 -- after the last tick of a row comes the next row
 unfoldable pub next_tick : SequentialState → SequentialState

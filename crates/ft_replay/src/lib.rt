@@ -4,9 +4,11 @@
 //! pitch, the rules of a row, the tick, its sound, and the replay of a whole song.
 #![tactic(auto)]
 
+mod effect;
 mod first;
 mod laws;
 mod state;
 
+pub use effect::{Effect, VolumeEffect};
 pub use laws::replay_law;
 pub use state::{Channel, Control, Place, SongState};
