@@ -1,2 +1,4 @@
 pub mod Lists
 pub mod Starts
+pub mod Staying
+pub mod Turning

@@ -9,7 +9,7 @@ use Rattle.ft_types.specs.Views.{Owned, Shown, begun, head_of, head_of_owned, ke
 use Rattle.ft_tables.specs.Pitch.{is_played, played_note}
 use Rattle.ft_replay.specs.declared.state.Channel.{Channel}
 use Rattle.ft_replay.specs.State.{Lane}
-use Rattle.ft_replay.specs.Row.{Start, no_start, start_of, note_of, start_frame, is_note, without_voice, with_voice, new_voice, note_period}
+use Rattle.ft_replay.specs.Row.{Start, no_start, start_of, begin_of, start_frame, without_voice, with_voice, new_voice, note_period}
 use Rattle.ft_replay.specs.Standing.{lane_of}
 use Rattle.ft_channel.specs.Starting.{Started}
 
@@ -55,43 +55,34 @@ start_so song c cell frame (Some owned) head lane e right =
     let begins : can_begin cell frame (head_of owned.sample) ≡ true = ap (can_begin cell frame) same ∙ right in
     rw begins (ap (λ (h : SampleHead). begun_start song c cell frame (Some owned) h lane) same)
 
--- ---- the rule of a note
-
--- without a note nothing changes
-pub note_none : (shown : Shown) (c : ℕ) (cell : Cell) (channel : Channel) → is_note cell ≡ false
-    → Started c (note_of shown.version shown.song c cell (lane_of c shown channel)) shown shown channel false
-unfolding note_of
-note_none shown c cell channel none = rw none (record { lane = record { same = refl; kept = keeping_same c shown }; same = refl })
+-- ---- the rule of a note that begins
 
 -- a note without a sample ends the voice that is there
-pub note_missing : (before after : Shown) (c : ℕ) (cell : Cell) (channel : Channel)
-    → is_note cell ≡ true → head_of_owned (begun before.version before.song channel.instrument (cell.note - 1)) ≡ None
+pub begin_missing : (before after : Shown) (c : ℕ) (cell : Cell) (channel : Channel)
+    → head_of_owned (begun before.version before.song channel.instrument (cell.note - 1)) ≡ None
     → after ≡ keeping c (begun before.version before.song channel.instrument (cell.note - 1)) before
-    → Started c (note_of before.version before.song c cell (lane_of c before channel)) before after (record channel { voice = None }) false
-unfolding note_of
-note_missing before after c cell channel note e kept =
+    → Started c (begin_of before.version before.song c cell (lane_of c before channel)) before after (record channel { voice = None }) false
+begin_missing before after c cell channel e kept =
     let ends = start_missing before.song c cell (start_frame cell channel) (begun before.version before.song channel.instrument (cell.note - 1)) (lane_of c before channel) e in
     let nothing = kept ∙ ap (λ (owned : Option Owned). keeping c owned before) ends.1 in
-    rw (note, ends.0) (record { lane = record { same = refl; kept = nothing }; same = refl })
+    rw ends.0 (record { lane = record { same = refl; kept = nothing }; same = refl })
 
 -- and so does one that can't begin
-pub note_not : (before after : Shown) (c : ℕ) (cell : Cell) (channel : Channel) (head : SampleHead)
-    → is_note cell ≡ true → head_of_owned (begun before.version before.song channel.instrument (cell.note - 1)) ≡ Some head
+pub begin_not : (before after : Shown) (c : ℕ) (cell : Cell) (channel : Channel) (head : SampleHead)
+    → head_of_owned (begun before.version before.song channel.instrument (cell.note - 1)) ≡ Some head
     → can_begin cell (start_frame cell channel) head ≡ false → after ≡ keeping c None before
-    → Started c (note_of before.version before.song c cell (lane_of c before channel)) before after (record channel { voice = None }) false
-unfolding note_of
-note_not before after c cell channel head note e wrong kept =
+    → Started c (begin_of before.version before.song c cell (lane_of c before channel)) before after (record channel { voice = None }) false
+begin_not before after c cell channel head e wrong kept =
     let ends = start_not before.song c cell (start_frame cell channel) (begun before.version before.song channel.instrument (cell.note - 1)) head (lane_of c before channel) e wrong in
-    rw (note, ends) (record { lane = record { same = refl; kept = kept }; same = refl })
+    rw ends (record { lane = record { same = refl; kept = kept }; same = refl })
 
 -- a note that can begin begins its voice
-pub note_so : (before after : Shown) (c : ℕ) (cell : Cell) (channel channel_after : Channel) (head : SampleHead) (period : ℕ)
-    → is_note cell ≡ true → head_of_owned (begun before.version before.song channel.instrument (cell.note - 1)) ≡ Some head
+pub begin_so : (before after : Shown) (c : ℕ) (cell : Cell) (channel channel_after : Channel) (head : SampleHead) (period : ℕ)
+    → head_of_owned (begun before.version before.song channel.instrument (cell.note - 1)) ≡ Some head
     → can_begin cell (start_frame cell channel) head ≡ true → after ≡ keeping c (begun before.version before.song channel.instrument (cell.note - 1)) before
     → period ≡ note_period before.song cell head → channel_after ≡ with_voice (new_voice c (start_frame cell channel) head) period channel
-    → Started c (note_of before.version before.song c cell (lane_of c before channel)) before after channel_after true
-unfolding note_of
-note_so before after c cell channel channel_after head period note e right kept pitch made =
+    → Started c (begin_of before.version before.song c cell (lane_of c before channel)) before after channel_after true
+begin_so before after c cell channel channel_after head period e right kept pitch made =
     let starts = start_so before.song c cell (start_frame cell channel) (begun before.version before.song channel.instrument (cell.note - 1)) head (lane_of c before channel) e right in
     let same = made ∙ ap (λ (p : ℕ). with_voice (new_voice c (start_frame cell channel) head) p channel) pitch in
-    rw (note, starts) (record { lane = record { same = same; kept = kept }; same = refl })
+    rw starts (record { lane = record { same = same; kept = kept }; same = refl })

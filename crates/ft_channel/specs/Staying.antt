@@ -4,7 +4,7 @@ use Rattle.ft_types.specs.declared.voice.SampleHead.{SampleHead}
 use Rattle.ft_types.specs.declared.voice.Voice.{Voice}
 use Rattle.ft_replay.specs.declared.state.Channel.{Channel}
 use Rattle.ft_replay.specs.declared.state.Control.{Control}
-use Rattle.ft_replay.specs.Range.{IsChannelInRange, IsMemoryInRange, IsTimed}
+use Rattle.ft_replay.specs.Range.{IsChannelInRange, IsTimed}
 
 -- ---- a channel
 
@@ -15,7 +15,6 @@ sample_of (Some voice) = Some voice.head
 
 -- what was in range is in range still, and a voice sounds where one did, of the same sample
 pub record Stays (channel channel_after : Channel) : Type 0 where
-  pub memory : IsMemoryInRange channel → IsMemoryInRange channel_after
   pub range : (c : ℕ) → IsChannelInRange c channel → IsChannelInRange c channel_after
   pub sample : sample_of channel_after.voice ≡ sample_of channel.voice
 

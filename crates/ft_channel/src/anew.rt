@@ -2,7 +2,7 @@
 
 ghost use Rattle.std.specs.Prelude.{◌≡◌, if◌then◌else◌};
 ghost use Rattle.ft_replay.specs.Row as row;
-ghost use Rattle.ft_channel.specs.Staying.{StaysInRange};
+ghost use Rattle.ft_channel.specs.Staying.{Stays};
 
 use ft_replay::Channel;
 use ft_types::Cell;
@@ -17,8 +17,7 @@ fn is_instrument(cell: Cell) -> bool
 /// An instrument byte becomes the channel's instrument.
 pub fn take_instrument(channel: &mut Channel, cell: Cell)
     ensures value { channel.new ≡ row.with_instrument cell channel.old }
-    ensures voice { channel.new.voice ≡ channel.old.voice }
-    ensures range { StaysInRange channel.old channel.new }
+    ensures stays { Stays channel.old channel.new }
 {
     if cell.instrument != 0 {
         channel.instrument = cell.instrument;
@@ -28,8 +27,7 @@ pub fn take_instrument(channel: &mut Channel, cell: Cell)
 /// Fade, envelopes and automatic vibrato begin anew, or stay.
 fn begin_anew(channel: &mut Channel, anew: bool)
     ensures value { channel.new ≡ (if anew then row.as_new channel.old else channel.old) }
-    ensures voice { channel.new.voice ≡ channel.old.voice }
-    ensures range { StaysInRange channel.old channel.new }
+    ensures stays { Stays channel.old channel.new }
 {
     if !anew {
         return;
@@ -45,8 +43,7 @@ fn begin_anew(channel: &mut Channel, anew: bool)
 /// Volume and panning become those of the sounding voice's sample.
 fn take_levels(channel: &mut Channel)
     ensures value { channel.new ≡ row.with_levels channel.old.voice channel.old }
-    ensures voice { channel.new.voice ≡ channel.old.voice }
-    ensures range { StaysInRange channel.old channel.new }
+    ensures stays { Stays channel.old channel.new }
 {
     let Some(voice) = channel.voice else {
         return;
@@ -59,8 +56,7 @@ fn take_levels(channel: &mut Channel)
 #[tactic(auto, unfolding(ft_replay::specs::Row::after_note))]
 pub fn after_note(channel: &mut Channel, began: bool, cell: Cell)
     ensures value { channel.new ≡ row.after_note began cell channel.old }
-    ensures voice { channel.new.voice ≡ channel.old.voice }
-    ensures range { StaysInRange channel.old channel.new }
+    ensures stays { Stays channel.old channel.new }
 {
     begin_anew(channel, began || is_instrument(cell));
     if is_instrument(cell) {

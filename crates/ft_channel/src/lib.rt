@@ -5,6 +5,7 @@
 #![tactic(auto)]
 
 mod anew;
+mod effect;
 mod fine;
 mod key_off;
 mod memory;

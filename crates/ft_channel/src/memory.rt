@@ -8,19 +8,33 @@ use ft_replay::Channel;
 
 /// The place of each effect's memory. R has one for each of its digits.
 pub const PORTAMENTO_UP: usize = 0;
+
 pub const PORTAMENTO_DOWN: usize = 1;
+
 pub const SAMPLE_OFFSET: usize = 2;
+
 pub const VOLUME_SLIDE: usize = 3;
+
 pub const FINE_PORTAMENTO_UP: usize = 4;
+
 pub const FINE_PORTAMENTO_DOWN: usize = 5;
+
 pub const FINE_VOLUME_UP: usize = 6;
+
 pub const FINE_VOLUME_DOWN: usize = 7;
+
 pub const GLOBAL_SLIDE: usize = 8;
+
 pub const PANNING_SLIDE: usize = 9;
+
 pub const RETRIGGER_CHANGE: usize = 10;
+
 pub const RETRIGGER_INTERVAL: usize = 11;
+
 pub const TREMOR: usize = 12;
+
 pub const EXTRA_FINE_UP: usize = 13;
+
 pub const EXTRA_FINE_DOWN: usize = 14;
 
 /// A parameter other than 0 is remembered.

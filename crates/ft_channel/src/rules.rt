@@ -63,6 +63,7 @@ fn portamento_down(channel: &mut Channel)
 }
 
 /// A tone portamento with a volume slide.
+
 fn tone_portamento_slide(channel: &mut Channel)
     requires { IsMemoryInRange channel.old }
     ensures value { channel.new ≡ rules.tone_portamento_slide channel.old }
@@ -73,6 +74,7 @@ fn tone_portamento_slide(channel: &mut Channel)
 }
 
 /// A vibrato with a volume slide.
+
 fn vibrato_slide(channel: &mut Channel)
     requires { IsMemoryInRange channel.old }
     ensures value { channel.new ≡ rules.vibrato_slide channel.old }

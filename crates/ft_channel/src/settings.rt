@@ -8,7 +8,7 @@ ghost use Rattle.ft_channel.specs.Staying.{Stays};
 use crate::memory as place;
 use crate::memory::remember;
 use crate::retriggers::{cut_note, start_tremor};
-use crate::swings::{set_tremolo, set_vibrato_depth, set_vibrato_speed};
+use crate::swings::{set_tremolo_depth, set_tremolo_speed, set_vibrato_depth, set_vibrato_speed};
 use crate::volume::{set_panning, set_volume};
 use ft_replay::{Channel, Effect};
 
@@ -48,6 +48,7 @@ fn set_envelope_positions(channel: &mut Channel, position: u8)
 }
 
 /// R: both digits are remembered.
+
 fn remember_retrigger(channel: &mut Channel, change: u8, interval: u8)
     ensures value { channel.new ≡ rules.with_retrigger change interval channel.old }
     ensures stays { Stays channel.old channel.new }
@@ -57,6 +58,7 @@ fn remember_retrigger(channel: &mut Channel, change: u8, interval: u8)
 }
 
 /// T: the digits are remembered, and the voice is muted where its turn is over.
+
 fn set_tremor(channel: &mut Channel, times: u8)
     ensures value { channel.new ≡ rules.with_tremor times channel.old }
     ensures stays { Stays channel.old channel.new }
@@ -66,6 +68,7 @@ fn set_tremor(channel: &mut Channel, times: u8)
 }
 
 /// 4: digits other than 0 become the speed and the depth of the vibrato.
+
 fn set_vibrato(channel: &mut Channel, speed: u8, depth: u8)
     requires speed { speed ≤ 15 }
     requires depth { depth ≤ 15 }
@@ -74,6 +77,17 @@ fn set_vibrato(channel: &mut Channel, speed: u8, depth: u8)
 {
     set_vibrato_speed(channel, speed);
     set_vibrato_depth(channel, depth);
+}
+
+/// 7: digits other than 0 become the speed and the depth of the tremolo.
+fn set_tremolo(channel: &mut Channel, speed: u8, depth: u8)
+    requires speed { speed ≤ 15 }
+    requires depth { depth ≤ 15 }
+    ensures value { channel.new ≡ rules.with_tremolo speed depth channel.old }
+    ensures stays { Stays channel.old channel.new }
+{
+    set_tremolo_speed(channel, speed);
+    set_tremolo_depth(channel, depth);
 }
 
 /// What an effect sets of its channel.

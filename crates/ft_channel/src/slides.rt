@@ -42,7 +42,8 @@ fn towards(target: u16, amount: u16, period: u16) -> u16
 
 /// The period goes to the target of a tone portamento.
 pub fn tone_portamento(channel: &mut Channel)
-    requires { channel.old.target ≤ 31999 }
+    requires target { channel.old.target ≤ 31999 }
+    requires period { channel.old.period ≤ 31999 }
     ensures value { channel.new ≡ slides.tone_portamento channel.old }
     ensures stays { Stays channel.old channel.new }
 {

@@ -65,16 +65,23 @@ pub fn vibrate(channel: &mut Channel)
     channel.vib_pos = (channel.vib_pos + channel.vib_speed) % 64;
 }
 
-/// Digits other than 0 become the speed and the depth of the tremolo.
-pub fn set_tremolo(channel: &mut Channel, speed: u8, depth: u8)
-    requires speed { speed ≤ 15 }
-    requires depth { depth ≤ 15 }
-    ensures value { channel.new ≡ swings.with_tremolo speed depth channel.old }
+/// A speed other than 0 becomes that of the tremolo.
+pub fn set_tremolo_speed(channel: &mut Channel, speed: u8)
+    requires { speed ≤ 15 }
+    ensures value { channel.new ≡ swings.with_tremolo_speed speed channel.old }
     ensures stays { Stays channel.old channel.new }
 {
     if speed != 0 {
         channel.trem_speed = speed;
     }
+}
+
+/// A depth other than 0 becomes that of the tremolo.
+pub fn set_tremolo_depth(channel: &mut Channel, depth: u8)
+    requires { depth ≤ 15 }
+    ensures value { channel.new ≡ swings.with_tremolo_depth depth channel.old }
+    ensures stays { Stays channel.old channel.new }
+{
     if depth != 0 {
         channel.trem_depth = depth;
     }

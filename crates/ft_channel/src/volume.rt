@@ -6,7 +6,9 @@ ghost use Rattle.ft_replay.specs.Range.{IsMemoryInRange};
 ghost use Rattle.ft_replay.specs.VolumeColumn as column;
 ghost use Rattle.ft_channel.specs.Staying.{Stays};
 
-use crate::slides::{go_left, go_right, lower_volume, raise_volume, set_tone_speed, tone_portamento};
+use crate::slides::{
+    go_left, go_right, lower_volume, raise_volume, set_tone_speed, tone_portamento,
+};
 use crate::swings::{set_vibrato_depth, set_vibrato_speed, vibrate};
 use ft_replay::{Channel, VolumeEffect};
 

@@ -134,12 +134,16 @@ with_key_off song channel = record channel {
 
 -- ---- each kind of note
 
+-- a note that begins, or ends what sounds there
+abbrev pub begin_of : ℕ → Module → ℕ → Cell → Lane → Start
+begin_of version song c cell lane = start_of song c cell (start_frame cell lane.channel) (begun version song lane.channel.instrument (cell.note - 1)) lane
+
 unfoldable pub note_of : ℕ → Module → ℕ → Cell → Lane → Start
 note_of version song c cell lane =
     if cell.note == 97 then no_start (with_channel (with_key_off song) lane)
     else (if not (is_note cell) then no_start lane
     else (if is_towards cell && is_some lane.channel.voice then no_start (with_channel (with_target song cell) lane)
-    else start_of song c cell (start_frame cell lane.channel) (begun version song lane.channel.instrument (cell.note - 1)) lane))
+    else begin_of version song c cell lane))
 
 -- ---- what a note or an instrument byte sets anew
 

@@ -82,13 +82,16 @@ with_retrigger change interval channel = with_memory memory.retrigger_interval i
 abbrev pub with_vibrato : ℕ → ℕ → Channel → Channel
 with_vibrato speed depth channel = swings.with_vibrato_depth depth (swings.with_vibrato_speed speed channel)
 
+abbrev pub with_tremolo : ℕ → ℕ → Channel → Channel
+with_tremolo speed depth channel = swings.with_tremolo_depth depth (swings.with_tremolo_speed speed channel)
+
 abbrev pub with_tremor : ℕ → Channel → Channel
 with_tremor times channel = retriggers.tremor_start (with_memory memory.tremor times channel)
 
 -- effects that set something, now
 unfoldable pub setting_start : Effect → Channel → Channel
 setting_start (Vibrato speed depth) channel = with_vibrato speed depth channel
-setting_start (Tremolo speed depth) channel = swings.with_tremolo speed depth channel
+setting_start (Tremolo speed depth) channel = with_tremolo speed depth channel
 setting_start (Panning panning) channel = with_panning panning channel
 setting_start (Volume volume) channel = with_volume (min volume 64) channel
 setting_start (Glissando on) channel = with_glissando on channel

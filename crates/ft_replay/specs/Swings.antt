@@ -32,11 +32,11 @@ vibrato channel = record channel {
 
 -- ---- tremolo
 
-abbrev pub with_tremolo : ℕ → ℕ → Channel → Channel
-with_tremolo speed depth channel = record channel {
-  trem_speed = if speed == 0 then channel.trem_speed else speed;
-  trem_depth = if depth == 0 then channel.trem_depth else depth;
-}
+abbrev pub with_tremolo_speed : ℕ → Channel → Channel
+with_tremolo_speed speed channel = if speed == 0 then channel else record channel { trem_speed = speed }
+
+abbrev pub with_tremolo_depth : ℕ → Channel → Channel
+with_tremolo_depth depth channel = if depth == 0 then channel else record channel { trem_depth = depth }
 
 abbrev pub tremolo : Channel → Channel
 tremolo channel = record channel {

@@ -1,0 +1,82 @@
+-- A turn of a channel, from the rules of its note and of its effect.
+use Rattle.std.proofs.Common.{◌≡◌, ◌∙◌, ℕ, Option, Bool, false, refl, ap, sym, subst}
+use Rattle.ft_types.specs.declared.module.Module.{Module}
+use Rattle.ft_types.specs.declared.pattern.Cell.{Cell}
+use Rattle.ft_types.specs.Views.{Owned, Shown, keeping}
+use Rattle.ft_replay.specs.declared.effect.Effect.{Effect}
+use Rattle.ft_replay.specs.declared.state.Channel.{Channel}
+use Rattle.ft_replay.specs.declared.state.Control.{Control}
+use Rattle.ft_replay.specs.State.{Lane, Turn}
+use Rattle.ft_replay.specs.Effects.{effect_in, volume_effect_of}
+use Rattle.ft_replay.specs.VolumeColumn.{volume_tick_of}
+use Rattle.ft_replay.specs.Row.{with_channel, with_offset, is_delayed, strike_of, delayed_strike, effect_start_of, effect_tick_of, row_start_of, row_tick_of}
+use Rattle.ft_replay.specs.Standing.{lane_of, turn_of, Became, Turned}
+use Rattle.ft_channel.specs.Looping.{Loops, turn_with}
+
+-- a rule of channel and control, after one that made a lane
+turned_by : (rule : Module → Turn → Turn) (before mid after : Shown) (c : ℕ) (lane : Lane) (struck last : Channel) (control control_after : Control)
+    → Became c lane before mid struck → after ≡ mid → Loops (rule mid.song) struck last control control_after
+    → Turned c (rule before.song (record { lane = lane; control = control })) before after last control_after
+turned_by rule before mid after c lane struck last control control_after became same loops =
+    let song : mid.song ≡ before.song = ap (λ (s : Shown). s.song) became.kept in
+    let turn : turn_with last lane.owned control_after ≡ rule before.song (record { lane = lane; control = control }) =
+    loops lane.owned ∙ ap (λ (s : Module). rule s (turn_with struck lane.owned control)) song
+    ∙ ap (λ (channel : Channel). rule before.song (turn_with channel lane.owned control)) became.same in
+    record {
+      lane = record {
+        same = ap (λ (t : Turn). t.lane.channel) turn;
+        kept = same ∙ became.kept ∙ ap (λ (t : Turn). keeping c t.lane.owned before) turn;
+      };
+      same = ap (λ (t : Turn). t.control) turn;
+    }
+
+-- a row that isn't delayed
+row_rule : (version : ℕ) (song : Module) (c : ℕ) (cell : Cell) (turn : Turn) → is_delayed (effect_in cell) ≡ false
+    → row_start_of version song c cell turn
+    ≡ effect_start_of song c (effect_in cell) (record { lane = strike_of version song c cell (with_channel (with_offset (effect_in cell)) turn.lane); control = turn.control })
+unfolding row_start_of
+row_rule version song c cell turn plain = rw plain refl
+
+pub start_turned : (before mid after : Shown) (c : ℕ) (cell : Cell) (effect : Effect) (channel offset struck last : Channel) (control control_after : Control)
+    → effect ≡ effect_in cell → is_delayed effect ≡ false → offset ≡ with_offset effect channel
+    → Became c (strike_of before.version before.song c cell (lane_of c before offset)) before mid struck → after ≡ mid
+    → Loops (effect_start_of mid.song c effect) struck last control control_after
+    → Turned c (row_start_of before.version before.song c cell (turn_of c before channel control)) before after last control_after
+start_turned before mid after c cell effect channel offset struck last control control_after e plain o became same loops =
+    let here = o ∙ ap (λ (x : Effect). with_offset x channel) e in
+    let lane = strike_of before.version before.song c cell (lane_of c before (with_offset (effect_in cell) channel)) in
+    let made : Became c lane before mid struck =
+    subst (λ (x : Channel). Became c (strike_of before.version before.song c cell (lane_of c before x)) before mid struck) here became in
+    let rule : Loops (effect_start_of mid.song c (effect_in cell)) struck last control control_after =
+    subst (λ (x : Effect). Loops (effect_start_of mid.song c x) struck last control control_after) e loops in
+    subst (λ (t : Turn). Turned c t before after last control_after)
+    (sym (row_rule before.version before.song c cell (turn_of c before channel control) (ap is_delayed (sym e) ∙ plain)))
+    (turned_by (λ (song : Module). effect_start_of song c (effect_in cell)) before mid after c lane struck last control control_after made same rule)
+
+-- a later tick
+tick_rule : (version : ℕ) (song : Module) (c u : ℕ) (turn : Turn)
+    → row_tick_of version song c u turn
+    ≡ effect_tick_of song u (effect_in turn.lane.channel.cell) (record {
+      lane = delayed_strike version song c turn.lane.channel.cell u (effect_in turn.lane.channel.cell) (with_channel (volume_tick_of (volume_effect_of turn.lane.channel.cell.volume)) turn.lane);
+      control = turn.control;
+    })
+unfolding row_tick_of
+tick_rule version song c u turn = refl
+
+pub tick_turned : (before mid after : Shown) (c u : ℕ) (effect : Effect) (channel slid struck last : Channel) (control control_after : Control)
+    → effect ≡ effect_in channel.cell → slid ≡ volume_tick_of (volume_effect_of channel.cell.volume) channel
+    → Became c (delayed_strike before.version before.song c channel.cell u effect (lane_of c before slid)) before mid struck → after ≡ mid
+    → Loops (effect_tick_of mid.song u effect) struck last control control_after
+    → Turned c (row_tick_of before.version before.song c u (turn_of c before channel control)) before after last control_after
+tick_turned before mid after c u effect channel slid struck last control control_after e s became same loops =
+    let cell = channel.cell in
+    let slides = volume_tick_of (volume_effect_of cell.volume) channel in
+    let lane = delayed_strike before.version before.song c cell u (effect_in cell) (lane_of c before slides) in
+    let made : Became c lane before mid struck =
+    subst (λ (x : Effect). Became c (delayed_strike before.version before.song c cell u x (lane_of c before slides)) before mid struck) e
+    (subst (λ (x : Channel). Became c (delayed_strike before.version before.song c cell u effect (lane_of c before x)) before mid struck) s became) in
+    let rule : Loops (effect_tick_of mid.song u (effect_in cell)) struck last control control_after =
+    subst (λ (x : Effect). Loops (effect_tick_of mid.song u x) struck last control control_after) e loops in
+    subst (λ (t : Turn). Turned c t before after last control_after)
+    (sym (tick_rule before.version before.song c u (turn_of c before channel control)))
+    (turned_by (λ (song : Module). effect_tick_of song u (effect_in cell)) before mid after c lane struck last control control_after made same rule)

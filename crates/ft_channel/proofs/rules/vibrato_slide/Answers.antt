@@ -1,0 +1,5 @@
+use Rattle.ft_channel.proofs.Staying.{stays_through}
+use Rattle.ft_channel.proofs.rules.vibrato_slide.Goals as goal
+
+pub returns-clause-stays : goal.returns-clause-stays
+returns-clause-stays c = stays_through _ _ _ c.vibrate.ensures.stays c.slide_volume.ensures.stays
