@@ -85,5 +85,14 @@ keeps_same a c h l x y z many voices p = record {
   wide = p.wide;
 }
 
+pub keeps_after : (a c : ℕ → SampleHead → Type 0) (h l : List Bool) (x y z : List Channel) → length z ≡ length y
+    → ((d : ℕ) → d < length y → (get_or z d blank_channel).voice ≡ (get_or y d blank_channel).voice) → KeepsForAll a c h l x y → KeepsForAll a c h l x z
+keeps_after a c h l x y z many voices p = record {
+  kept = λ s d lt. let inside : d < length y = omega arith in subst (IsKept c d) (sym (voices d inside)) (p.kept s d inside);
+  exact = λ s d lt. let inside : d < length y = omega arith in p.exact s d inside ∙ ap is_some (sym (voices d inside));
+  many = many ∙ p.many;
+  wide = p.wide;
+}
+
 pub keeps_here : (a : ℕ → SampleHead → Type 0) (h : List Bool) (x : List Channel) → KeepsForAll a a h h x x
 keeps_here a h x = record { kept = λ s. s; exact = λ s. s; many = refl; wide = refl }

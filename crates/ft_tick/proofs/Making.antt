@@ -29,13 +29,13 @@ rows_state before placed after control place done channels place_channels done_c
     ∙ ap (λ (s : Shown). after_rows s.version s.song (state_of place place_channels s)) r.here
     ∙ ap (after_rows before.version before.song) r.found
 
-pub tick_of : (rate : ℕ) (before placed rows after : Shown) (control place done timed next : Control) (channels place_channels done_channels heard : List Channel)
+pub tick_of : (rate : ℕ) (before placed rows after : Shown) (control place done timed next : Control) (channels place_channels done_channels heard last_channels : List Channel)
     → AreRowsDone before placed rows control place done channels place_channels done_channels
     → after ≡ rows → timed ≡ with_carry rate done → heard ≡ map (heard_channel rate timed rows.song) done_channels
-    → state_of next heard after ≡ next_tick (state_of timed heard after)
-    → Made (λ version song state. (tick_state_of version song rate state).state) before after (state_of control channels before) (state_of next heard after)
+    → state_of next last_channels after ≡ next_tick (state_of timed heard after)
+    → Made (λ version song state. (tick_state_of version song rate state).state) before after (state_of control channels before) (state_of next last_channels after)
 unfolding tick_state_of heard_on
-tick_of rate before placed rows after control place done timed next channels place_channels done_channels heard r on time hear last =
+tick_of rate before placed rows after control place done timed next channels place_channels done_channels heard last_channels r on time hear last =
     let song : rows.song ≡ before.song = r.rows.song ∙ ap (λ (s : Shown). s.song) r.here in
     let made : state_of timed heard after ≡ with_channels (heard_channel rate (with_carry rate done) before.song) (with_control (with_carry rate done) (state_of done done_channels rows)) =
     ap (λ (s : Shown). state_of timed heard s) on

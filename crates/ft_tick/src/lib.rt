@@ -3,7 +3,9 @@
 
 mod gain;
 mod hear;
+mod next;
 mod place;
+mod position;
 mod rows;
 mod seats;
 mod state;

@@ -12,6 +12,7 @@ ghost use Rattle.ft_replay.specs.Standing.{state_of};
 ghost use Rattle.ft_replay.specs.Tick as tick;
 ghost use Rattle.ft_tick.specs.Voices.{HaveSameVoices};
 
+use crate::position::set_position;
 use ft_replay::{Channel, Control};
 use ft_types::{SongHead, SongView};
 
@@ -28,37 +29,6 @@ fn open_song(control: &mut Control, head: SongHead)
         control.tempo = head.tempo;
         control.bpm = head.bpm;
     }
-}
-
-/// The loop of rows of a channel ends.
-fn end_loop(channel: &mut Channel)
-    ensures { channel.new ≡ tick.without_loop channel.old }
-{
-    channel.loop_row = 0;
-    channel.loop_count = 0;
-}
-
-/// The loops of rows end on all channels.
-#[tactic(auto, using(std::proofs::lemmas::List::Edits::map_over_more))]
-fn end_loops(channels: &mut [Channel])
-    ensures { channels.new ≡ map tick.without_loop channels.old }
-{
-    for channel in channels.iter_mut() {
-        end_loop(channel);
-    }
-}
-
-/// Sets the order position, at a row.
-fn set_position(channels: &mut [Channel], control: &mut Control, position: u16, row: u16)
-    ensures state { (shown : Shown) → state_of control.new channels.new shown
-        ≡ tick.at_position position row (state_of control.old channels.old shown) }
-    ensures channels { channels.new ≡ map tick.without_loop channels.old }
-    ensures voices { HaveSameVoices channels.old channels.new }
-    ensures control { control.new ≡ record control.old { pos = position; row = row } }
-{
-    control.pos = position;
-    control.row = row;
-    end_loops(channels);
 }
 
 /// An order position past the song is the restart, at its first row.

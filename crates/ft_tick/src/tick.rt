@@ -10,28 +10,12 @@ ghost use Rattle.ft_replay.specs.Tick as tick;
 ghost use Rattle.ft_tick.specs.Bounds.{tick_bound};
 
 use crate::hear::hear;
+use crate::next::advance;
 use crate::place::find_place;
 use crate::rows::do_rows;
 use crate::time::tick_frames;
 use ft_replay::{Channel, Control, Place};
 use ft_types::SongView;
-
-/// Goes on to the next tick: after the last one of a row to the next row.
-#[tactic(auto, unfolding(ft_replay::specs::Tick::next_tick))]
-fn advance(control: &mut Control)
-    requires playing { (n : ℕ) × IsPlaying n control.old }
-    ensures state { (channels : List AChannel) (shown : Shown) → state_of control.new channels shown
-        ≡ tick.next_tick (state_of control.old channels shown) }
-    ensures range { (n : ℕ) → IsPlaying n control.old → IsControlInRange n control.new }
-{
-    let ticks = u16::from(control.tempo) * (1 + u16::from(control.delay));
-    control.tick += 1;
-    if control.tick == ticks {
-        control.tick = 0;
-        control.delay = 0;
-        control.row += 1;
-    }
-}
 
 /// Makes the state of a tick, with its voices at their first frame, and says where the tick is and
 /// how many frames it has.
@@ -70,7 +54,7 @@ pub fn make_tick<V: SongView>(
     do_rows(view, channels, control, head);
     let frames = tick_frames(control, rate);
     hear(view, channels, control, head.linear, rate);
-    advance(control);
+    advance(channels, control);
     Place {
         order,
         row,

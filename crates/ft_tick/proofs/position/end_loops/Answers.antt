@@ -3,7 +3,7 @@ use Rattle.std.proofs.lemmas.List.{get_or_default}
 use Rattle.std.proofs.lemmas.List.Edits.{map_over_more}
 use Rattle.ft_replay.specs.State.{blank_channel}
 use Rattle.ft_replay.specs.Tick.{without_loop}
-use Rattle.ft_tick.proofs.place.end_loops.Goals as goal
+use Rattle.ft_tick.proofs.position.end_loops.Goals as goal
 
 pub loop-channel-preserved : goal.loop-channel-preserved
 loop-channel-preserved c =
