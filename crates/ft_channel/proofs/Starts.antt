@@ -18,7 +18,7 @@ use Rattle.ft_channel.specs.Starting.{Started}
 pub keeping_twice : (c : ℕ) (a b : Option Owned) (shown : Shown) → keeping c b (keeping c a shown) ≡ keeping c b shown
 keeping_twice c a b shown = rw set-set refl
 
-keeping_same : (c : ℕ) (shown : Shown) → shown ≡ keeping c (get_or shown.kept c None) shown
+pub keeping_same : (c : ℕ) (shown : Shown) → shown ≡ keeping c (get_or shown.kept c None) shown
 keeping_same c shown = rw (set-get_or shown.kept c None) refl
 
 -- ---- the rule of a start

@@ -1,5 +1,5 @@
 -- What stays of a channel, from rule to rule.
-use Rattle.std.proofs.Common.{◌≡◌, ◌∙◌, ℕ, Some, ap, sym, subst, arith, rules}
+use Rattle.std.proofs.Common.{◌≡◌, ◌∙◌, Some, ap, sym, subst, arith, rules}
 use Rattle.ft_types.specs.declared.voice.Voice.{Voice}
 use Rattle.ft_replay.specs.declared.state.Channel.{Channel}
 use Rattle.ft_replay.specs.Range.{IsVoiceInRange}

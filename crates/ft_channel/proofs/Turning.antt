@@ -1,8 +1,8 @@
 -- A turn of a channel, from the rules of its note and of its effect.
-use Rattle.std.proofs.Common.{◌≡◌, ◌∙◌, ℕ, Option, Bool, false, refl, ap, sym, subst}
+use Rattle.std.proofs.Common.{◌≡◌, ◌∙◌, ℕ, true, false, refl, ap, sym, subst}
 use Rattle.ft_types.specs.declared.module.Module.{Module}
 use Rattle.ft_types.specs.declared.pattern.Cell.{Cell}
-use Rattle.ft_types.specs.Views.{Owned, Shown, keeping}
+use Rattle.ft_types.specs.Views.{Shown, keeping}
 use Rattle.ft_replay.specs.declared.effect.Effect.{Effect}
 use Rattle.ft_replay.specs.declared.state.Channel.{Channel}
 use Rattle.ft_replay.specs.declared.state.Control.{Control}
@@ -11,6 +11,8 @@ use Rattle.ft_replay.specs.Effects.{effect_in, volume_effect_of}
 use Rattle.ft_replay.specs.VolumeColumn.{volume_tick_of}
 use Rattle.ft_replay.specs.Row.{with_channel, with_offset, is_delayed, strike_of, delayed_strike, effect_start_of, effect_tick_of, row_start_of, row_tick_of}
 use Rattle.ft_replay.specs.Standing.{lane_of, turn_of, Became, Turned}
+use Rattle.ft_replay.specs.Calls.{Turns, TurnsShown}
+use Rattle.ft_channel.proofs.Starts.{keeping_same}
 use Rattle.ft_channel.specs.Looping.{Loops, turn_with}
 
 -- a rule of channel and control, after one that made a lane
@@ -80,3 +82,23 @@ tick_turned before mid after c u effect channel slid struck last control control
     subst (λ (t : Turn). Turned c t before after last control_after)
     (sym (tick_rule before.version before.song c u (turn_of c before channel control)))
     (turned_by (λ (song : Module). effect_tick_of song u (effect_in cell)) before mid after c lane struck last control control_after made same rule)
+
+-- ---- by what the view may show
+
+pub turns_shown : {V W : Type 0} → (shows : V → W → Type 0) (shown : V → W → Shown) (rule : ℕ → Module → ℕ → Turn → Turn) (c : ℕ) (view view_after : V)
+    (channel channel_after : Channel) (control control_after : Control) → Turns shows shown rule c view view_after channel channel_after control control_after
+    → TurnsShown shows shown rule c view view_after channel channel_after control control_after
+turns_shown shows shown rule c view view_after channel channel_after control control_after turns after may =
+    let w = may.0 in
+    let made = turns w may.1 in
+    let before = shown view w in (
+      before,
+      (w, made.0, refl),
+      subst (λ (s : Shown). Turned c (rule before.version before.song c (turn_of c before channel control)) before s channel_after control_after) may.2 made.1,
+    )
+
+-- a delayed row turns nothing yet
+pub delayed_turned : (shown : Shown) (c : ℕ) (cell : Cell) (channel : Channel) (control : Control) → is_delayed (effect_in cell) ≡ true
+    → Turned c (row_start_of shown.version shown.song c cell (turn_of c shown channel control)) shown shown channel control
+unfolding row_start_of
+delayed_turned shown c cell channel control late = rw late (record { lane = record { same = refl; kept = keeping_same c shown }; same = refl })

@@ -69,6 +69,9 @@ pub fn row_start<V: SongView>(view: &mut V, ch: &mut Channel, ctl: &mut Control,
     ensures turned { calls.Turns V.shows V.shown
         (λ version song c. row.row_start_of version song c cell) c
         view.old view.new ch.old ch.new ctl.old ctl.new }
+    ensures shown { calls.TurnsShown V.shows V.shown
+        (λ version song c. row.row_start_of version song c cell) c
+        view.old view.new ch.old ch.new ctl.old ctl.new }
     ensures keeps { calls.KeepsFor c (V.keeps view.old) (V.keeps view.new)
         (V.holds view.old) (V.holds view.new) ch.old.voice ch.new.voice }
     ensures range { IsChannelInRange c ch.new }
@@ -127,6 +130,9 @@ pub fn row_tick<V: SongView>(view: &mut V, ch: &mut Channel, ctl: &mut Control, 
     requires channel { c < length (V.holds view.old) }
     requires range { IsChannelInRange c ch.old }
     ensures turned { calls.Turns V.shows V.shown
+        (λ version song c. row.row_tick_of version song c u) c
+        view.old view.new ch.old ch.new ctl.old ctl.new }
+    ensures shown { calls.TurnsShown V.shows V.shown
         (λ version song c. row.row_tick_of version song c u) c
         view.old view.new ch.old ch.new ctl.old ctl.new }
     ensures keeps { calls.KeepsFor c (V.keeps view.old) (V.keeps view.new)

@@ -3,7 +3,7 @@ use Rattle.std.specs.Prelude.{ℕ, ◌≡◌, ◌≢◌, ◌==◌, ◌||◌, All
 use Rattle.ft_types.specs.declared.module.Module.{Module}
 use Rattle.ft_types.specs.declared.voice.SampleHead.{SampleHead}
 use Rattle.ft_types.specs.declared.voice.Voice.{Voice}
-use Rattle.ft_types.specs.Views.{Shown}
+use Rattle.ft_types.specs.Views.{Shown, MayShow}
 use Rattle.ft_replay.specs.declared.state.Channel.{Channel}
 use Rattle.ft_replay.specs.declared.state.Control.{Control}
 use Rattle.ft_replay.specs.State.{Lane, SequentialState, Turn, blank_channel}
@@ -32,6 +32,21 @@ Makes {W = W} shows shown rule view view_after state state_after =
 -- nothing that is shown changes
 abbrev pub ShowsOn : {V W : Type 0} → (V → W → Type 0) → (V → W → Shown) → V → V → Type 0
 ShowsOn {W = W} shows shown view view_after = (w : W) → shows view_after w → shows view w × (shown view_after w ≡ shown view w)
+
+-- ---- the same by what the view may show: for whatever it may show after a call there is something that
+-- ---- it might show before
+
+-- of which one channel's turn is made
+abbrev pub TurnsShown : {V W : Type 0} → (V → W → Type 0) → (V → W → Shown) → (ℕ → Module → ℕ → Turn → Turn) → ℕ → V → V → Channel → Channel → Control → Control → Type 0
+TurnsShown shows shown rule c view view_after channel channel_after control control_after =
+    (after : Shown) → MayShow shows shown view_after after → (before : Shown) × MayShow shows shown view before
+    × Turned c (rule before.version before.song c (turn_of c before channel control)) before after channel_after control_after
+
+-- of which the whole state is made
+abbrev pub MakesShown : {V W : Type 0} → (V → W → Type 0) → (V → W → Shown) → (ℕ → Module → SequentialState → SequentialState) → V → V → (Shown → SequentialState) → (Shown → SequentialState) → Type 0
+MakesShown shows shown rule view view_after state state_after =
+    (after : Shown) → MayShow shows shown view_after after → (before : Shown) × MayShow shows shown view before
+    × Made rule before after (state before) (state_after after)
 
 -- ---- what is kept, whatever stands behind the view
 

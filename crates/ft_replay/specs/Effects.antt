@@ -1,5 +1,5 @@
 -- Which effect a cell has, by its effect byte and its parameter, and by its volume byte.
-use Rattle.std.specs.Prelude.{ℕ, ◌≤◌, ◌+◌, ◌-◌, ◌*◌, ◌/◌, ◌%◌, ◌==◌, ◌&&◌, not, Bool, nat_le, if◌then◌else◌}
+use Rattle.std.specs.Prelude.{ℕ, ◌≤◌, ◌+◌, ◌-◌, ◌*◌, ◌/◌, ◌%◌, ◌==◌, ◌&&◌, not, nat_le, if◌then◌else◌}
 use Rattle.ft_types.specs.declared.pattern.Cell.{Cell}
 use Rattle.ft_replay.specs.declared.effect.Effect.{Effect}
 use Rattle.ft_replay.specs.declared.effect.Effect.TheVariants.{Nothing, Arpeggio, PortamentoUp, PortamentoDown, TonePortamento, Vibrato, TonePortamentoSlide, VibratoSlide, Tremolo, Panning, SampleOffset, VolumeSlide, Jump, Volume, Break, FinePortamentoUp, FinePortamentoDown, Glissando, VibratoWave, Finetune, PatternLoop, TremoloWave, Retrigger, FineVolumeUp, FineVolumeDown, NoteCut, NoteDelay, PatternDelay, Tempo, Bpm, GlobalVolume, GlobalSlide, KeyOff, EnvelopePosition, PanningSlide, MultiRetrigger, Tremor, ExtraFineUp, ExtraFineDown}

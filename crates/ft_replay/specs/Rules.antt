@@ -1,7 +1,7 @@
 -- The rules of effects: at the start of a row, and in its later ticks.
 use Rattle.std.specs.Prelude.{ℕ, ◌*◌, Bool, min}
 use Rattle.ft_replay.specs.declared.effect.Effect.{Effect}
-use Rattle.ft_replay.specs.declared.effect.Effect.TheVariants.{Arpeggio, PortamentoUp, PortamentoDown, TonePortamento, Vibrato, TonePortamentoSlide, VibratoSlide, Tremolo, Panning, SampleOffset, VolumeSlide, Jump, Volume, Break, FinePortamentoUp, FinePortamentoDown, Glissando, VibratoWave, PatternLoop, TremoloWave, Retrigger, FineVolumeUp, FineVolumeDown, NoteCut, PatternDelay, Tempo, Bpm, GlobalVolume, GlobalSlide, EnvelopePosition, PanningSlide, MultiRetrigger, Tremor, ExtraFineUp, ExtraFineDown}
+use Rattle.ft_replay.specs.declared.effect.Effect.TheVariants.{Arpeggio, PortamentoUp, PortamentoDown, TonePortamento, Vibrato, TonePortamentoSlide, VibratoSlide, Tremolo, Panning, VolumeSlide, Jump, Volume, Break, FinePortamentoUp, FinePortamentoDown, Glissando, VibratoWave, PatternLoop, TremoloWave, Retrigger, FineVolumeUp, FineVolumeDown, NoteCut, PatternDelay, Tempo, Bpm, GlobalVolume, GlobalSlide, EnvelopePosition, PanningSlide, MultiRetrigger, Tremor, ExtraFineUp, ExtraFineDown}
 use Rattle.ft_replay.specs.declared.state.Channel.{Channel}
 use Rattle.ft_replay.specs.declared.state.Control.{Control}
 use Rattle.ft_replay.specs.State.{Turn}

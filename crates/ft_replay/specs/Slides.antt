@@ -1,5 +1,5 @@
 -- What moves a period, a volume or a panning.
-use Rattle.std.specs.Prelude.{ℕ, ◌+◌, ◌-◌, ◌*◌, ◌==◌, ◌||◌, Bool, true, min, max, nat_lt, if◌then◌else◌}
+use Rattle.std.specs.Prelude.{ℕ, ◌+◌, ◌-◌, ◌*◌, ◌==◌, ◌||◌, true, min, max, nat_lt, if◌then◌else◌}
 use Rattle.ft_replay.specs.declared.state.Channel.{Channel}
 use Rattle.ft_replay.specs.Effects.{high, low}
 use Rattle.ft_replay.specs.Memory as memory

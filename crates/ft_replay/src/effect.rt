@@ -234,7 +234,9 @@ fn letter_effect(number: u8, parameter: u8) -> Effect
         16 => Effect::GlobalVolume { volume: parameter },
         17 => Effect::GlobalSlide { change: parameter },
         20 => Effect::KeyOff { tick: parameter },
-        21 => Effect::EnvelopePosition { position: parameter },
+        21 => Effect::EnvelopePosition {
+            position: parameter,
+        },
         25 => Effect::PanningSlide { change: parameter },
         27 => Effect::MultiRetrigger {
             change: x,

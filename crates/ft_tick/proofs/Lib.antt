@@ -7,3 +7,4 @@ mod Gathering
 mod Parts
 mod RowRules
 mod Making
+pub mod Showing

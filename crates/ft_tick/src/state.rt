@@ -64,6 +64,9 @@ pub fn tick_state<V: SongView>(view: &mut V, song: &mut SongState, rate: u32) ->
     ensures made { calls.Makes V.shows V.shown
         (λ version a_song state. (tick.tick_state_of version a_song rate state).state)
         view.old view.new (sequential_of song.old) (sequential_of song.new) }
+    ensures shown { calls.MakesShown V.shows V.shown
+        (λ version a_song state. (tick.tick_state_of version a_song rate state).state)
+        view.old view.new (sequential_of song.old) (sequential_of song.new) }
     ensures place { (w : V.World) → V.shows view.new w → result
         ≡ (tick.tick_state_of (V.shown view.old w).version (V.shown view.old w).song rate
         (sequential_of song.old (V.shown view.old w))).place }

@@ -1,8 +1,10 @@
-use Rattle.std.proofs.Common.{◌≡◌, ◌∙◌, ap}
+use Rattle.std.proofs.Common.{◌≡◌, ◌∙◌, ℕ, ap}
+use Rattle.ft_types.specs.declared.module.Module.{Module}
+use Rattle.ft_replay.specs.Row.{row_tick_of}
 use Rattle.ft_replay.specs.declared.effect.VolumeEffect.{VolumeEffect}
 use Rattle.ft_replay.specs.Effects.{volume_effect_of}
 use Rattle.ft_replay.specs.VolumeColumn.{volume_tick_of}
-use Rattle.ft_channel.proofs.Turning.{tick_turned}
+use Rattle.ft_channel.proofs.Turning.{tick_turned, turns_shown}
 use Rattle.ft_channel.proofs.row.row_tick.Goals as goal
 
 pub strike_late-requires-clause-range : goal.strike_late-requires-clause-range
@@ -22,3 +24,8 @@ returns-clause-turned g c = λ w is.
 
 pub returns-clause-range : goal.returns-clause-range
 returns-clause-range g c = c.effect_tick.ensures.stays.range c.args.c c.strike_late.ensures.range
+
+pub returns-clause-shown : goal.returns-clause-shown
+returns-clause-shown g c =
+    turns_shown g.V.SongView.shows g.V.SongView.shown (λ (version : ℕ) (song : Module) (d : ℕ). row_tick_of version song d c.args.u) c.args.c c.args.view.now c.effect_tick.new.view c.args.ch.now c.effect_tick.new.channel c.args.ctl.now c.effect_tick.new.control
+    (returns-clause-turned g c)
