@@ -7,6 +7,7 @@ pub mod Retriggers
 pub mod Sequence
 pub mod VolumeColumn
 pub mod Rules
+pub mod Envelopes
 pub mod Time
 pub mod Row
 pub mod Hearing

@@ -13,6 +13,7 @@ use Rattle.ft_replay.specs.declared.effect.Effect.TheVariants.{TonePortamento, T
 use Rattle.ft_replay.specs.declared.state.Channel.{Channel}
 use Rattle.ft_replay.specs.State.{Lane, Turn}
 use Rattle.ft_replay.specs.Effects.{effect_in, volume_effect_of}
+use Rattle.ft_replay.specs.Envelopes.{is_on}
 use Rattle.ft_replay.specs.Memory as memory
 use Rattle.ft_replay.specs.VolumeColumn.{volume_start_of, volume_tick_of}
 use Rattle.ft_replay.specs.Rules as rules
@@ -120,10 +121,6 @@ unfoldable pub with_target : Module → Cell → Channel → Channel
 with_target song cell channel = target_by song cell channel.voice channel
 
 -- ---- the key off
-
-abbrev pub is_on : Option Envelope → Bool
-is_on None = false
-is_on (Some envelope) = not (envelope.flags % 2 == 0) && not (envelope.count == 0)
 
 -- a key off lets a volume envelope go on, and where none is on silences the channel
 unfoldable pub with_key_off : Module → Channel → Channel
