@@ -5,6 +5,7 @@ ghost use Rattle.ft_types.specs.declared.voice.SampleHead.{SampleHead};
 ghost use Rattle.ft_types.specs.Work as work_of;
 ghost use Rattle.ft_tables.specs.Pitch as pitch;
 ghost use Rattle.ft_replay.specs.Calls as calls;
+ghost use Rattle.ft_replay.specs.Envelopes as envelopes;
 ghost use Rattle.ft_replay.specs.Row as row;
 ghost use Rattle.ft_channel.specs.Staying.{Stays};
 
@@ -14,7 +15,7 @@ use ft_types::{Cell, Envelope, SongView};
 
 /// Whether an instrument's envelope is on.
 fn is_on(envelope: Option<Envelope>) -> bool
-    ensures { result ≡ row.is_on envelope }
+    ensures { result ≡ envelopes.is_on envelope }
 {
     let Some(envelope) = envelope else {
         return false;

@@ -5,7 +5,9 @@
 #![tactic(auto)]
 
 mod anew;
+mod auto;
 mod effect;
+mod envelope;
 mod fine;
 mod key_off;
 mod memory;
@@ -19,4 +21,6 @@ mod slides;
 mod swings;
 mod volume;
 
+pub use auto::auto_vibrato;
+pub use envelope::{envelope_at, envelope_next};
 pub use row::{row_start, row_tick};

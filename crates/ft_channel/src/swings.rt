@@ -10,12 +10,14 @@ use ft_tables::wave;
 
 /// So many parts of the height of a wave, rounded towards 0.
 #[tactic(auto, unfolding(ft_replay::specs::Swings::parts_of))]
-fn parts_of(height: i16, depth: u8, parts: u16) -> i16
+pub fn parts_of(height: i16, depth: u8, parts: u16) -> i16
     requires low { negsuc 254 ≤ℤ height }
     requires high { height ≤ℤ pos 255 }
     requires depth { depth ≤ 15 }
     requires parts { 1 ≤ parts }
-    ensures { result ≡ swings.parts_of height depth parts }
+    ensures value { result ≡ swings.parts_of height depth parts }
+    ensures auto_low { parts ≡ 256 → negsuc 13 ≤ℤ result }
+    ensures auto_high { parts ≡ 256 → result ≤ℤ pos 14 }
 {
     let size = (height.unsigned_abs() * u16::from(depth) / parts) as i16;
     if height < 0 {
