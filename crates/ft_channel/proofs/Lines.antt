@@ -1,5 +1,5 @@
 -- Straight lines between the points of an envelope.
-use Rattle.std.proofs.Common.{◌≡◌, ◌≢◌, ◌∙◌, ℕ, zero, suc, ◌≤◌, ◌<◌, ◌+◌, ◌-◌, ◌*◌, ◌/◌, Bool, true, false, List, None, Some, ℤ, pos, negsuc, ◌+ℤ◌, ◌-ℤ◌, ◌*ℤ◌, leb, if◌then◌else◌, get_or, inl, inr, refl, ap, sym, subst, arith}
+use Rattle.std.proofs.Common.{◌≡◌, ◌∙◌, ℕ, zero, suc, ◌≤◌, ◌<◌, ◌+◌, ◌-◌, ◌*◌, ◌/◌, Bool, true, false, List, Some, ℤ, pos, negsuc, ◌+ℤ◌, ◌-ℤ◌, ◌*ℤ◌, leb, if◌then◌else◌, get_or, inl, inr, refl, ap, sym, subst, arith}
 use Rattle.std.specs.Prelude.{nat_abs}
 use Rattle.std.proofs.lemmas.Bool.{cases_lt, leb-true, leb-false}
 use Rattle.std.proofs.lemmas.Int.{ints}
@@ -97,9 +97,9 @@ found_by position points n k false e before is =
       within = omega (arith, f.within);
       reached = f.reached;
       next = λ lt. elim (cases_lt (k + 1) n) [
-          | inl lower ↦ f.next lower
-          | inr le ↦ subst (λ (m : ℕ). position < (get_or points m origin).x) {x = n} {y = k + 1} (omega arith) past
-        ];
+        | inl lower ↦ f.next lower
+        | inr le ↦ subst (λ (m : ℕ). position < (get_or points m origin).x) {x = n} {y = k + 1} (omega arith) past
+      ];
     }
 
 pub last_found : (position : ℕ) (points : List Point) (n k : ℕ) → last_by position points n ≡ Some k → IsLastBy position points n k

@@ -7,6 +7,13 @@ ghost use Rattle.ft_channel.specs.Points.{IsLastBy};
 
 use ft_types::{Envelope, Point};
 
+/// Whether an envelope is on: its bit is set, and it has a point.
+pub fn is_on(env: &Envelope) -> bool
+    ensures { result ≡ envelopes.is_on (Some env.now) }
+{
+    env.flags % 2 != 0 && env.count != 0
+}
+
 /// The last point in use that isn't past a position, counted from 0.
 fn last_point(points: &[Point; 12], count: u8, position: u16) -> Option<u8>
     requires { count ≤ 12 }

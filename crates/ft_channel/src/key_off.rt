@@ -9,18 +9,19 @@ ghost use Rattle.ft_replay.specs.Envelopes as envelopes;
 ghost use Rattle.ft_replay.specs.Row as row;
 ghost use Rattle.ft_channel.specs.Staying.{Stays};
 
+use crate::envelope::is_on;
 use ft_replay::Channel;
 use ft_tables::{period, played_note};
 use ft_types::{Cell, Envelope, SongView};
 
-/// Whether an instrument's envelope is on.
-fn is_on(envelope: Option<Envelope>) -> bool
+/// Whether there is an envelope that is on.
+fn has_envelope(envelope: Option<Envelope>) -> bool
     ensures { result ≡ envelopes.is_on envelope }
 {
-    let Some(envelope) = envelope else {
-        return false;
-    };
-    envelope.flags % 2 != 0 && envelope.count != 0
+    match envelope {
+        Some(envelope) => is_on(&envelope),
+        None => false,
+    }
 }
 
 /// The channel is released; without a volume envelope that is on it is silent.
@@ -37,7 +38,7 @@ pub fn key_off<V: SongView>(view: &mut V, channel: &mut Channel)
         × (V.work view.new ≤ V.work view.old + work_of.envelope_bound) }
     ensures same { V.same view.old view.new }
 {
-    let on = is_on(view.envelope(channel.instrument, 0));
+    let on = has_envelope(view.envelope(channel.instrument, 0));
     channel.released = true;
     if !on {
         channel.vol = 0;

@@ -22,5 +22,5 @@ mod swings;
 mod volume;
 
 pub use auto::auto_vibrato;
-pub use envelope::{envelope_at, envelope_next};
+pub use envelope::{envelope_at, envelope_next, is_on};
 pub use row::{row_start, row_tick};

@@ -1,5 +1,5 @@
 -- Envelopes: straight lines between points, and how their positions go on.
-use Rattle.std.specs.Prelude.{ℕ, zero, suc, ◌+◌, ◌-◌, ◌/◌, ◌%◌, ◌==◌, ◌&&◌, not, Bool, true, false, List, Option, None, Some, ℤ, pos, ◌+ℤ◌, ◌-ℤ◌, ◌*ℤ◌, get_or, nat_abs, nat_le, if◌then◌else◌}
+use Rattle.std.specs.Prelude.{ℕ, zero, suc, ◌+◌, ◌-◌, ◌/◌, ◌%◌, ◌==◌, ◌&&◌, not, Bool, false, List, Option, None, Some, pos, ◌+ℤ◌, ◌-ℤ◌, ◌*ℤ◌, get_or, nat_abs, nat_le, if◌then◌else◌}
 use Rattle.ft_types.specs.declared.instrument.Envelope.{Envelope}
 use Rattle.ft_types.specs.declared.instrument.Point.{Point}
 use Rattle.ft_tables.specs.Pitch.{floor_div}

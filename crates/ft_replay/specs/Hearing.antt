@@ -1,13 +1,13 @@
 -- What is heard of a channel in a tick: the gains and the step of its voice; and how envelopes, automatic vibrato and fade go on.
-use Rattle.std.specs.Prelude.{ℕ, ◌+◌, ◌-◌, ◌*◌, ◌/◌, ◌%◌, ◌^◌, ◌==◌, ◌&&◌, ◌||◌, ℤ, pos, ◌+ℤ◌, ◌-ℤ◌, ◌*ℤ◌, Bool, true, Option, Some, None, min, nat_abs, nat_le, nat_lt, slice_index, if◌then◌else◌}
+use Rattle.std.specs.Prelude.{ℕ, ◌+◌, ◌-◌, ◌*◌, ◌/◌, ◌%◌, ◌^◌, ◌==◌, ◌&&◌, ◌||◌, ℤ, pos, ◌+ℤ◌, ◌-ℤ◌, ◌*ℤ◌, Bool, true, Option, Some, None, min, nat_abs, nat_le, if◌then◌else◌}
 use Rattle.std.specs.Int.{int_min, int_max}
 use Rattle.ft_types.specs.declared.module.Module.{Module}
-use Rattle.ft_types.specs.declared.instrument.Instrument.{Instrument}
+use Rattle.ft_types.specs.declared.instrument.Envelope.{Envelope}
 use Rattle.ft_types.specs.declared.instrument.Shape.{Shape}
 use Rattle.ft_types.specs.declared.instrument.Vibrato.{Vibrato}
 use Rattle.ft_types.specs.declared.voice.Voice.{Voice}
 use Rattle.ft_types.specs.Views.{instrument_at, envelope_in, shape_in}
-use Rattle.ft_tables.specs.Pitch.{floor_div, step_of, twelfths}
+use Rattle.ft_tables.specs.Pitch.{amiga_higher, floor_div, step_of}
 use Rattle.ft_tables.specs.Waves.{wave_of}
 use Rattle.ft_replay.specs.declared.state.Channel.{Channel}
 use Rattle.ft_replay.specs.declared.state.Control.{Control}
@@ -16,19 +16,30 @@ use Rattle.ft_replay.specs.Swings.{parts_of}
 
 -- ---- gains
 
+-- a number brought into a range
+abbrev pub brought_into : ℤ → ℤ → ℤ → ℕ
+brought_into low high z = nat_abs (int_max low (int_min z high))
+
 -- with what a tremolo adds; nothing where a tremor mutes
 unfoldable pub heard_volume : Channel → ℕ
-heard_volume channel = if channel.muted then 0 else nat_abs (int_max (pos 0) (int_min (pos channel.vol +ℤ channel.trem_off) (pos 64)))
+heard_volume channel = if channel.muted then 0 else brought_into (pos 0) (pos 64) (pos channel.vol +ℤ channel.trem_off)
 
 -- the gain of a voice by volume, global volume, envelope and fade; 65,536 where all are full
 unfoldable pub gain_of : ℕ → ℕ → ℕ → ℕ → ℕ
 gain_of volume global envelope fade = volume * global * envelope * fade / 2 ^ 17
 
+-- how far a panning is from the nearer side
+abbrev pub room_of : ℕ → ℕ
+room_of panning = if nat_le panning 128 then panning else 256 - panning
+
+-- so many parts of 32 of a room
+unfoldable pub moved : ℤ → ℕ → ℤ
+moved parts room = floor_div (parts *ℤ pos room) 32
+
 -- the panning by its envelope, which is 32 in the middle: the nearer to a side, the less it moves
 unfoldable pub heard_panning : ℕ → ℕ → ℕ
 heard_panning panning envelope =
-    let room = 128 - nat_abs (pos panning -ℤ pos 128) in
-    nat_abs (int_max (pos 0) (int_min (pos panning +ℤ floor_div ((pos envelope -ℤ pos 32) *ℤ pos room) 32) (pos 255)))
+    brought_into (pos 0) (pos 255) (pos panning +ℤ moved (pos envelope -ℤ pos 32) (room_of panning))
 
 -- the sides by panning
 abbrev pub left_gain : ℕ → ℕ → ℕ
@@ -39,28 +50,25 @@ right_gain gain pan = gain * pan / 256
 
 -- ---- the period
 
--- a tone portamento that is heard in semitones: the nearest one, counted from the target
-unfoldable pub glided_period : Bool → Channel → ℤ
-glided_period linear channel =
-    if linear && channel.glissando && channel.gliding
-    then (pos channel.target +ℤ (pos 64 *ℤ floor_div ((pos channel.period -ℤ pos channel.target) +ℤ pos 32) 64))
+-- whole semitones that are nearest to a distance
+unfoldable pub in_semitones : ℤ → ℤ
+in_semitones distance = pos 64 *ℤ floor_div (distance +ℤ pos 32) 64
+
+-- a tone portamento that is heard in semitones, counted from the target
+unfoldable pub glided_period : Channel → ℤ
+glided_period channel =
+    if channel.glissando && channel.gliding
+    then (pos channel.target +ℤ in_semitones (pos channel.period -ℤ pos channel.target))
     else pos channel.period
 
--- an Amiga period so many semitones higher; from an octave on it is halved first
-unfoldable pub amiga_higher : ℕ → ℕ → ℕ
-amiga_higher semitones period =
-    if nat_lt semitones 12 then period * 65536 / slice_index twelfths semitones
-    else period / 2 * 65536 / slice_index twelfths (semitones - 12)
-
--- a period so many semitones higher, at least 1
-abbrev pub higher_period : Bool → ℕ → ℤ → ℤ
-higher_period linear semitones period =
-    int_max (pos 1) (if linear then (period -ℤ pos (64 * semitones)) else pos (amiga_higher semitones (nat_abs period)))
+-- as many semitones higher as the arpeggio says, at least 1; glissando is only known to linear periods
+unfoldable pub stepped_period : Bool → Channel → ℤ
+stepped_period linear channel =
+    int_max (pos 1) (if linear then (glided_period channel -ℤ pos (64 * channel.arp)) else pos (amiga_higher channel.arp channel.period))
 
 -- with what a vibrato and the automatic vibrato add: 1 to 31,999
 unfoldable pub heard_period : Bool → ℤ → Channel → ℕ
-heard_period linear offset channel =
-    nat_abs (int_max (pos 1) (int_min ((higher_period linear channel.arp (glided_period linear channel) +ℤ channel.vib_off) +ℤ offset) (pos 31999)))
+heard_period linear offset channel = brought_into (pos 1) (pos 31999) ((stepped_period linear channel +ℤ channel.vib_off) +ℤ offset)
 
 -- ---- the automatic vibrato
 
@@ -81,23 +89,23 @@ offset_by (Some shape) channel = auto_offset shape.vibrato channel
 
 -- ---- the voice
 
-unfoldable pub heard_voice : Bool → ℕ → ℕ → Option Instrument → Channel → Voice → Voice
-heard_voice linear rate global instrument channel voice =
-    let envelope = heard_envelope 64 (envelope_in instrument 0) channel.vol_env in
-    let gain = gain_of (heard_volume channel) global envelope channel.fade in
-    let panning = heard_panning channel.pan (heard_envelope 32 (envelope_in instrument 1) channel.pan_env) in
+-- by its envelopes, and with what the automatic vibrato adds to the period
+unfoldable pub heard_voice : Bool → ℕ → ℕ → Option Envelope → Option Envelope → ℤ → Channel → Voice → Voice
+heard_voice linear rate global volume panning offset channel voice =
+    let gain = gain_of (heard_volume channel) global (heard_envelope 64 volume channel.vol_env) channel.fade in
+    let pan = heard_panning channel.pan (heard_envelope 32 panning channel.pan_env) in
     record voice {
-      step = step_of linear rate (heard_period linear (offset_by (shape_in instrument) channel) channel);
-      left = left_gain gain panning;
-      right = right_gain gain panning;
+      step = step_of linear rate (heard_period linear offset channel);
+      left = left_gain gain pan;
+      right = right_gain gain pan;
     }
 
 -- ---- what goes on
 
-abbrev pub with_envelopes : Option Instrument → Channel → Channel
-with_envelopes instrument channel = record channel {
-  vol_env = next_position (envelope_in instrument 0) channel.released channel.vol_env;
-  pan_env = next_position (envelope_in instrument 1) channel.released channel.pan_env;
+abbrev pub with_envelopes : Option Envelope → Option Envelope → Channel → Channel
+with_envelopes volume panning channel = record channel {
+  vol_env = next_position volume channel.released channel.vol_env;
+  pan_env = next_position panning channel.released channel.pan_env;
 }
 
 -- the automatic vibrato of an instrument that exists goes on
@@ -106,6 +114,15 @@ with_auto_vibrato vibrato channel = record channel {
   auto_pos = (channel.auto_pos + vibrato.rate) % 256;
   auto_age = min (channel.auto_age + 1) 65535;
 }
+
+abbrev pub with_auto_by : Option Shape → Channel → Channel
+with_auto_by None channel = channel
+with_auto_by (Some shape) channel = with_auto_vibrato shape.vibrato channel
+
+-- a missing instrument has no fadeout
+abbrev pub fadeout_of : Option Shape → ℕ
+fadeout_of None = 0
+fadeout_of (Some shape) = shape.fadeout
 
 -- the tick is a voice's last one
 abbrev pub with_last : Option Voice → Option Voice
@@ -122,18 +139,15 @@ with_fade fadeout channel =
     }
     else channel
 
--- a missing instrument has neither automatic vibrato nor fadeout
-abbrev pub with_shape : Option Shape → Channel → Channel
-with_shape None channel = with_fade 0 channel
-with_shape (Some shape) channel = with_fade shape.fadeout (with_auto_vibrato shape.vibrato channel)
+-- the voice gets its gains and its step, and then envelopes, automatic vibrato and fade go on
+abbrev pub heard_by : ℕ → ℕ → Bool → Option Envelope → Option Envelope → Option Shape → Option Voice → Channel → Channel
+heard_by rate global linear volume panning shape None channel = channel
+heard_by rate global linear volume panning shape (Some voice) channel =
+    let heard = heard_voice linear rate global volume panning (offset_by shape channel) channel voice in
+    with_fade (fadeout_of shape) (with_auto_by shape (with_envelopes volume panning (record channel { voice = Some heard })))
 
-abbrev pub heard_by : ℕ → ℕ → Bool → Option Instrument → Option Voice → Channel → Channel
-heard_by rate global linear instrument None channel = channel
-heard_by rate global linear instrument (Some voice) channel =
-    with_shape (shape_in instrument) (with_envelopes instrument
-    (record channel { voice = Some (heard_voice linear rate global instrument channel voice) }))
-
--- a channel with a voice gets its gains and its step, by the instrument of its number; then all goes on
+-- a channel with a voice, by the instrument of its number
 unfoldable pub heard_channel : ℕ → Control → Module → Channel → Channel
 heard_channel rate control song channel =
-    heard_by rate control.global song.linear (instrument_at song channel.instrument) channel.voice channel
+    let instrument = instrument_at song channel.instrument in
+    heard_by rate control.global song.linear (envelope_in instrument 0) (envelope_in instrument 1) (shape_in instrument) channel.voice channel

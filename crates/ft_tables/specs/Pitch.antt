@@ -1,5 +1,5 @@
 -- Pitch: the notes that are played, their periods, the frequencies of periods, and the steps of voices.
-use Rattle.std.specs.Prelude.{ℕ, zero, suc, ◌+◌, ◌-◌, ◌*◌, ◌/◌, ◌%◌, ◌^◌, ℤ, pos, negsuc, ◌+ℤ◌, ◌-ℤ◌, ◌*ℤ◌, Bool, false, List, [], ◌∷◌, slice_index, nat_le, nat_abs, if◌then◌else◌}
+use Rattle.std.specs.Prelude.{ℕ, zero, suc, ◌+◌, ◌-◌, ◌*◌, ◌/◌, ◌%◌, ◌^◌, ℤ, pos, negsuc, ◌+ℤ◌, ◌-ℤ◌, ◌*ℤ◌, Bool, false, List, [], ◌∷◌, slice_index, nat_le, nat_lt, nat_abs, if◌then◌else◌}
 use Rattle.std.specs.Int.Signed.{shr_z}
 
 -- the quotient, rounded down
@@ -75,6 +75,12 @@ amiga_frequency_of period = 8363 * 1712 * 65536 / period
 
 unfoldable pub frequency16_of : Bool → ℕ → ℕ
 frequency16_of linear period = if linear then linear_frequency_of period else amiga_frequency_of period
+
+-- an Amiga period so many semitones higher; from an octave on it is halved first
+unfoldable pub amiga_higher : ℕ → ℕ → ℕ
+amiga_higher semitones period =
+    if nat_lt semitones 12 then period * 65536 / slice_index twelfths semitones
+    else period / 2 * 65536 / slice_index twelfths (semitones - 12)
 
 -- frames of the sample for each frame of output, with 32 bits of fraction
 unfoldable pub step_of : Bool → ℕ → ℕ → ℕ

@@ -1,6 +1,6 @@
 //! Frequencies of periods, and the steps of voices.
 
-ghost use Rattle.std.specs.Prelude.{◌≡◌, ◌≤◌, ◌<◌, ◌*◌, ◌^◌, true};
+ghost use Rattle.std.specs.Prelude.{◌≡◌, ◌≤◌, ◌<◌, ◌*◌, ◌/◌, ◌^◌, true, slice_index};
 ghost use Rattle.ft_tables.specs.Pitch as pitch;
 
 /// The powers of two by twelfths of an octave, of 65,536.
@@ -60,6 +60,37 @@ pub fn frequency16(linear: bool, period: u16) -> u64
     } else {
         amiga_frequency(period)
     }
+}
+
+/// The power of two of so many twelfths of an octave, 0 to 12, of 65,536.
+fn twelfth(semitones: u8) -> u32
+    requires { semitones ≤ 12 }
+    ensures value { result ≡ slice_index pitch.twelfths semitones }
+    ensures low { 65536 ≤ result }
+{
+    TWELFTHS[usize::from(semitones)]
+}
+
+/// A period divided by a power of two from 1 on, of 65,536.
+fn divided(period: u16, power: u32) -> u16
+    requires { 65536 ≤ power }
+    ensures value { result ≡ period * 65536 / power }
+    ensures bounded { result ≤ period }
+{
+    (u32::from(period) * 65536 / power) as u16
+}
+
+/// The Amiga period that is so many semitones higher, 0 to 24; from an octave on it is halved first.
+#[tactic(auto, unfolding(crate::specs::Pitch::amiga_higher))]
+pub fn amiga_higher(semitones: u8, period: u16) -> u16
+    requires { semitones ≤ 24 }
+    ensures value { result ≡ pitch.amiga_higher semitones period }
+    ensures bounded { result ≤ period }
+{
+    if semitones < 12 {
+        return divided(period, twelfth(semitones));
+    }
+    divided(period / 2, twelfth(semitones - 12))
 }
 
 /// The frames of a sample for each frame of output, with 32 bits of fraction.

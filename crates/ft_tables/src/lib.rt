@@ -8,6 +8,6 @@ mod frequencies;
 mod periods;
 mod waves;
 
-pub use frequencies::{frequency16, step_of};
+pub use frequencies::{amiga_higher, frequency16, step_of};
 pub use periods::{amiga_period, linear_period, period, played_note};
 pub use waves::wave;

@@ -8,3 +8,4 @@ mod Parts
 mod RowRules
 mod Making
 pub mod Showing
+pub mod Hearings

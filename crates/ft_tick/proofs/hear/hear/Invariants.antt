@@ -1,6 +1,6 @@
 use Rattle.std.proofs.Common.{◌≡◌, ◌≤◌, ◌+◌, ◌*◌, ◌++◌, ℕ, map, take, drop}
 use Rattle.ft_types.specs.declared.voice.SampleHead.{SampleHead}
-use Rattle.ft_types.specs.Work.{shape_bound}
+use Rattle.ft_tick.specs.Bounds.{hear_bound}
 use Rattle.ft_replay.specs.Calls.{KeepsForAll}
 use Rattle.ft_replay.specs.Hearing.{heard_channel}
 use Rattle.ft_replay.specs.Range.{AreInRange}
@@ -15,6 +15,6 @@ invariant-loop-c g l = record {
   keeps_all : KeepsForAll (g.V.SongView.keeps l.fn.view) (g.V.SongView.keeps l.view) (g.V.SongView.holds l.fn.view) (g.V.SongView.holds l.view) l.fn.channels l.channels;
   holds : g.V.SongView.holds l.view ≡ g.V.SongView.holds l.fn.view;
   keeps : (d : ℕ) (h : SampleHead) → g.V.SongView.keeps l.fn.view d h → g.V.SongView.keeps l.view d h;
-  work : (g.V.SongView.work l.fn.view ≤ g.V.SongView.work l.view) × (g.V.SongView.work l.view ≤ g.V.SongView.work l.fn.view + l.c * shape_bound);
+  work : (g.V.SongView.work l.fn.view ≤ g.V.SongView.work l.view) × (g.V.SongView.work l.view ≤ g.V.SongView.work l.fn.view + l.c * hear_bound);
   same : g.V.SongView.same l.fn.view l.view;
 }
