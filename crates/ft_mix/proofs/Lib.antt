@@ -1,5 +1,6 @@
 mod Floor
 mod Parts
+mod Stored
 mod Sums
 mod Sounds
 mod After

@@ -1,7 +1,8 @@
 use Rattle.std.proofs.Common.{rules, sym, ◌≡◌, ◌<◌, ◌≤◌, ◌+◌, ◌*◌, ◌/◌, ℕ, length, take, subst, ◌∙◌, arith}
 use Rattle.std.proofs.lemmas.List.{length-take-le}
 use Rattle.ft_types.specs.Views.{Shown}
-use Rattle.ft_mix.specs.Mixing.{IsFrame, all_sides}
+use Rattle.ft_replay.specs.Sound.{voices_sum, left_of, right_of}
+use Rattle.ft_mix.specs.Mixing.{IsFrame}
 use Rattle.ft_mix.proofs.Sounds.{more_frames, block_end, in_block, sound_is}
 use Rattle.ft_mix.proofs.block.fill.Goals as goal
 
@@ -13,20 +14,21 @@ loop-block-preserved g c =
     let few = c.block_len-many.ensures.few in
     let within = c.block_len-many.ensures.within in
     let whole = c.block_len-many.ensures.whole in
-    let lent : length (take many c.loop-block.sums) ≡ many = length-take-le many c.loop-block.sums (search rules) in
+    let lent : length (take many c.loop-block.left) ≡ many = length-take-le many c.loop-block.left (search rules) in
     record {
       frames = λ w is.
           let a = c.fill_block.ensures.frames w is in
           let b = c.loop-block.invariant.frames w a.0 in
           let kept = (g.V.SongView.shown c.args.view.now w).kept in
-          let new : (k : ℕ) → k < many → IsFrame (all_sides (256 * block + k) kept c.args.voices.now) (256 * block + k) c.fill_block.new.out =
-          λ k lt. subst (λ (s : Shown). IsFrame (all_sides (256 * block + k) s.kept c.args.voices.now) (256 * block + k) c.fill_block.new.out) b.1 (a.2 k (subst (λ (n : ℕ). k < n) (sym lent) lt)) in (
+          let new : (k : ℕ) → k < many → IsFrame (voices_sum (left_of (256 * block + k)) kept c.args.voices.now) (voices_sum (right_of (256 * block + k)) kept c.args.voices.now) (256 * block + k) c.fill_block.new.out =
+          λ k lt. subst (λ (s : Shown). IsFrame (voices_sum (left_of (256 * block + k)) s.kept c.args.voices.now) (voices_sum (right_of (256 * block + k)) s.kept c.args.voices.now) (256 * block + k) c.fill_block.new.out) b.1 (a.2 k (subst (λ (n : ℕ). k < n) (sym lent) lt)) in (
             b.0,
             a.1 ∙ b.1,
             λ k lt below. more_frames kept c.args.voices.now (256 * block) many c.loop-block.out c.fill_block.new.out
                 (λ n less. b.2 n less (omega arith)) c.fill_block.ensures.before new k (in_block (256 * block) many (length c.args.out.now / 2) k whole (omega arith) below),
           );
       many = c.fill_block.ensures.many ∙ c.loop-block.invariant.many;
+      lines = c.fill_block.ensures.lines ∙ c.loop-block.invariant.lines;
       holds = c.fill_block.ensures.holds ∙ c.loop-block.invariant.holds;
       keeps = λ k h s. c.fill_block.ensures.keeps k h (c.loop-block.invariant.keeps k h s);
       rising = omega arith;

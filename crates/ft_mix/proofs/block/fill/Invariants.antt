@@ -1,14 +1,17 @@
 use Rattle.std.proofs.Common.{◌≡◌, ◌≤◌, ◌<◌, ◌+◌, ◌*◌, ℕ, length}
 use Rattle.ft_types.specs.declared.voice.SampleHead.{SampleHead}
 use Rattle.ft_types.specs.Work as work_of
+use Rattle.ft_replay.specs.Sound as sound
 use Rattle.ft_mix.specs.Mixing as mixing
 use Rattle.ft_mix.proofs.block.fill.Given as goal
 
 abbrev pub invariant-loop-block : goal.invariant-loop-block
 invariant-loop-block g l = record {
   frames : (w : g.row.V-World.Denot) → g.V.SongView.shows l.view w → g.V.SongView.shows l.fn.view w × (g.V.SongView.shown l.view w ≡ g.V.SongView.shown l.fn.view w)
-      × ((k : ℕ) → k < 256 * l.block → k < l.frames → mixing.IsFrame (mixing.all_sides k (g.V.SongView.shown l.fn.view w).kept l.voices) k l.out);
+      × ((k : ℕ) → k < 256 * l.block → k < l.frames
+      → mixing.IsFrame (sound.voices_sum (sound.left_of k) (g.V.SongView.shown l.fn.view w).kept l.voices) (sound.voices_sum (sound.right_of k) (g.V.SongView.shown l.fn.view w).kept l.voices) k l.out);
   many : length l.out ≡ length l.fn.out;
+  lines : length l.lines ≡ 512;
   holds : g.V.SongView.holds l.view ≡ g.V.SongView.holds l.fn.view;
   keeps : (c : ℕ) (h : SampleHead) → g.V.SongView.keeps l.fn.view c h → g.V.SongView.keeps l.view c h;
   rising : g.V.SongView.work l.fn.view ≤ g.V.SongView.work l.view;
