@@ -49,8 +49,10 @@ fn add_voices<V: SongView>(
         ≤ V.work view.old + length voices.now * (2 * work_of.frame_bound * length left.old)) }
     ensures same { V.same view.old view.new }
 {
+    let mut room = [0; 256];
+    let values = &mut room[..left.len()];
     for voice in voices {
-        add_voice(view, *voice, first, lines, left, right);
+        add_voice(view, *voice, first, lines, values, left, right);
     }
 }
 

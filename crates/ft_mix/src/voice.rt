@@ -10,13 +10,14 @@ use crate::line::Line;
 use crate::values::read_values;
 use ft_types::{SampleHead, SongView, Voice};
 
-/// Adds what a voice adds to both sides of the frames of its tick from `first` on. What `lines` lends
-/// holds afterwards isn't said.
+/// Adds what a voice adds to both sides of the frames of its tick from `first` on. What the lent lines
+/// and values hold afterwards isn't said.
 pub fn add_voice<V: SongView>(
     view: &mut V,
     voice: Voice,
     first: u32,
     lines: &mut [Line],
+    values: &mut [i32],
     left: &mut [i32],
     right: &mut [i32],
 )
@@ -24,6 +25,7 @@ pub fn add_voice<V: SongView>(
     requires some { 1 ≤ length left.old }
     requires few { length left.old ≤ 256 }
     requires both { length right.old ≡ length left.old }
+    requires values { length values.old ≡ length left.old }
     requires frames { first + length left.old ≤ 3751 }
     requires room { length lines.old ≡ 512 }
     requires left { mixing.AreLoud 31 (length left.old) left.old }
@@ -40,6 +42,7 @@ pub fn add_voice<V: SongView>(
         → mixing.AreLoud (n + 1) (length left.old) right.new }
     ensures many { length left.new ≡ length left.old }
     ensures both { length right.new ≡ length right.old }
+    ensures values { length values.new ≡ length values.old }
     ensures room { length lines.new ≡ length lines.old }
     ensures holds { V.holds view.new ≡ V.holds view.old }
     ensures keeps { (c : ℕ) (h : SampleHead) → V.keeps view.old c h → V.keeps view.new c h }
@@ -47,8 +50,6 @@ pub fn add_voice<V: SongView>(
         ≤ V.work view.old + 2 * work_of.frame_bound * length left.old) }
     ensures same { V.same view.old view.new }
 {
-    let mut room = [0; 256];
-    let values = &mut room[..left.len()];
     read_values(view, voice, first, lines, values);
     add_values(values, voice.left, left);
     add_values(values, voice.right, right);

@@ -42,6 +42,7 @@ loop-voice-preserved g c =
       right = λ k lt. c.add_voice.ensures.right i (λ j less. c.loop-voice.invariant.right j (omega arith)) k (omega arith);
       many = c.add_voice.ensures.many ∙ many;
       both = c.add_voice.ensures.both ∙ c.loop-voice.invariant.both;
+      values = c.add_voice.ensures.values ∙ c.loop-voice.invariant.values;
       room = c.add_voice.ensures.room ∙ c.loop-voice.invariant.room;
       holds = c.add_voice.ensures.holds ∙ c.loop-voice.invariant.holds;
       keeps = λ k h s. c.add_voice.ensures.keeps k h (c.loop-voice.invariant.keeps k h s);

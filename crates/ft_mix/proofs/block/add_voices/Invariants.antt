@@ -17,6 +17,7 @@ invariant-loop-voice g l = record {
   right : mixing.AreLoud l.voice-index (length l.fn.left) l.right;
   many : length l.left ≡ length l.fn.left;
   both : length l.right ≡ length l.fn.right;
+  values : length l.values ≡ length l.fn.left;
   room : length l.lines ≡ length l.fn.lines;
   holds : g.V.SongView.holds l.view ≡ g.V.SongView.holds l.fn.view;
   keeps : (c : ℕ) (h : SampleHead) → g.V.SongView.keeps l.fn.view c h → g.V.SongView.keeps l.view c h;
