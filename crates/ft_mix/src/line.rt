@@ -1,6 +1,7 @@
 //! Lines between two values, on which a voice moves.
 
-ghost use Rattle.std.specs.Prelude.{◌≡◌, ◌/◌, ◌%◌, ◌^◌, ◌≤ℤ◌, ℕ, pos, negsuc, Option};
+ghost use Rattle.std.specs.Prelude.{◌≡◌, ◌/◌, ◌%◌, ◌^◌, ◌≤ℤ◌, ◌-ℤ◌, ℕ, pos, negsuc, Option, FitsSigned};
+ghost use Rattle.std.specs.Int.{w16};
 ghost use Rattle.ft_types.specs.declared.voice.SampleHead.{SampleHead};
 ghost use Rattle.ft_types.specs.Views.{Owned};
 ghost use Rattle.ft_replay.specs.Sound as sound;
@@ -12,17 +13,31 @@ pub struct Line {
     /// The value at its beginning, -32,768 to 32,767.
     pub first: i32,
     /// How much higher the value at its end is, -65,535 to 65,535.
-    pub rise: i32,
+    pub rise: i64,
+}
+
+/// The line from a value to another one, each of -32,768 to 32,767.
+pub fn line_between(first: i32, second: i32) -> Line
+    requires first { FitsSigned w16 first }
+    requires second { FitsSigned w16 second }
+    ensures first { result.first ≡ first }
+    ensures rise { result.rise ≡ (second -ℤ first) }
+    ensures range { mixing.IsLineInRange result }
+{
+    Line {
+        first,
+        rise: i64::from(second - first),
+    }
 }
 
 /// How much of a rise, -65,535 to 65,535, is made at a fraction of 2^32, rounded down.
 #[tactic(auto, unfolding(ft_replay::specs::Sound::part))]
-fn part(rise: i32, fraction: u32) -> i32
+fn part(rise: i64, fraction: u32) -> i32
     requires low { negsuc 65534 ≤ℤ rise }
     requires high { rise ≤ℤ pos 65535 }
     ensures { result ≡ sound.part rise fraction }
 {
-    ((i64::from(rise) * i64::from(fraction)) >> 32) as i32
+    ((rise * i64::from(fraction)) >> 32) as i32
 }
 
 /// The value of a line at a fraction of 2^32.

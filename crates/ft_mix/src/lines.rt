@@ -4,7 +4,7 @@ ghost use Rattle.std.specs.Prelude.{◌≡◌, ◌≤◌, ◌<◌, ◌+◌, ◌*
 ghost use Rattle.ft_types.specs.Work as work_of;
 ghost use Rattle.ft_mix.specs.Mixing as mixing;
 
-use crate::line::Line;
+use crate::line::{Line, line_between};
 use crate::reach::value_of;
 use ft_types::{SampleHead, SongView};
 
@@ -24,10 +24,7 @@ pub fn read_line<V: SongView>(view: &mut V, channel: u8, head: &SampleHead, at: 
 {
     let first = value_of(view, channel, head, at);
     let second = value_of(view, channel, head, at + 1);
-    Line {
-        first,
-        rise: second - first,
-    }
+    line_between(first, second)
 }
 
 /// The lines from the frame that a channel's voice reaches at `at` on, one after the other. The view
@@ -58,10 +55,7 @@ pub fn read_lines<V: SongView>(
     for line in lines.iter_mut() {
         next += 1;
         let second = value_of(view, channel, head, next);
-        *line = Line {
-            first,
-            rise: second - first,
-        };
+        *line = line_between(first, second);
         first = second;
     }
 }

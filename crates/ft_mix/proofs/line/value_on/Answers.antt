@@ -1,5 +1,5 @@
 use Rattle.std.proofs.Common.{rules, ◌≡◌, ◌<◌, ◌^◌, ◌∙◌, arith, ap, subst, sym, ℤ, ◌+ℤ◌}
-use Rattle.std.specs.Int.{w16, w32}
+use Rattle.std.specs.Int.{w16, w64}
 use Rattle.std.specs.Prelude.{FitsSigned}
 use Rattle.std.proofs.lemmas.Int.{ints, to_z-of_z}
 use Rattle.ft_replay.specs.Sound.{part}
@@ -8,7 +8,7 @@ use Rattle.ft_mix.proofs.line.value_on.Goals as goal
 
 -- what the call gave, of the line's own rise
 given : (c : goal.After-struct_told-2-1) → c.part.result ≡ part c.args.line.rise c.args.fraction
-given c = c.part.ensures ∙ ap (λ (s : ℤ). part s c.args.fraction) (to_z-of_z w32 c.args.line.rise (search rules))
+given c = c.part.ensures ∙ ap (λ (s : ℤ). part s c.args.fraction) (to_z-of_z w64 c.args.line.rise (search rules))
 
 fits : (c : goal.After-struct_told-2-1) → FitsSigned w16 (c.args.line.first +ℤ c.part.result)
 fits c =
