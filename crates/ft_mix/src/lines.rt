@@ -1,6 +1,7 @@
 //! The lines that a voice reaches.
 
 ghost use Rattle.std.specs.Prelude.{◌≡◌, ◌≤◌, ◌<◌, ◌+◌, ◌*◌, ◌^◌, ℕ, None, length, get_or};
+ghost use Rattle.ft_types.specs.Valid.{IsValidHead};
 ghost use Rattle.ft_types.specs.Work as work_of;
 ghost use Rattle.ft_mix.specs.Mixing as mixing;
 
@@ -12,6 +13,7 @@ use ft_types::{SampleHead, SongView};
 pub fn read_line<V: SongView>(view: &mut V, channel: u8, head: &SampleHead, at: u32) -> Line
     requires channel { channel < length (V.holds view.old) }
     requires kept { V.keeps view.old channel head.now }
+    requires head { IsValidHead head.now }
     requires at { at < 2 ^ 24 }
     ensures line { mixing.Tells V.shows V.shown view.old view.new
         (λ shown. mixing.IsLine head.now (get_or shown.kept channel None) at result) }
@@ -38,6 +40,7 @@ pub fn read_lines<V: SongView>(
 )
     requires channel { channel < length (V.holds view.old) }
     requires kept { V.keeps view.old channel head.now }
+    requires head { IsValidHead head.now }
     requires at { at < 2 ^ 24 }
     requires few { length lines.old < 2 ^ 24 }
     ensures lines { mixing.Tells V.shows V.shown view.old view.new (λ shown.

@@ -1,21 +1,57 @@
 //! The places of a sample that are reached, and their values.
 
-ghost use Rattle.std.specs.Prelude.{◌≡◌, ◌≤◌, ◌<◌, ◌+◌, ◌≤ℤ◌, ℕ, pos, negsuc, None, IfSome, FitsSigned, length, get_or};
-ghost use Rattle.ft_types.specs.Valid.{width_of};
+ghost use Rattle.std.specs.Prelude.{◌≡◌, ◌≤◌, ◌<◌, ◌+◌, ◌*◌, ◌≤ℤ◌, ℕ, pos, negsuc, None, IfSome, FitsSigned, length, get_or};
+ghost use Rattle.ft_types.specs.Valid.{width_of, IsValidHead};
 ghost use Rattle.ft_types.specs.Work as work_of;
 ghost use Rattle.ft_replay.specs.Sound as sound;
 ghost use Rattle.ft_mix.specs.Mixing as mixing;
 
 use ft_types::{SampleHead, SongView};
 
-/// The place of the frame that a voice reaches at `i`, counted from its sample's first frame. None
-/// exactly past the end of a sample without loop.
+/// The steps of a turn of a loop, at least 1, after which it is at its first frame again.
+pub fn turn(head: &SampleHead) -> u32
+    requires head { IsValidHead head.now }
+    requires looped { 1 ≤ head.now.loop_kind }
+    ensures value { result ≡ sound.turn_of head.now }
+    ensures some { 1 ≤ result }
+    ensures bound { result ≤ 2 * head.now.loop_len }
+{
+    if head.loop_kind == 2 {
+        return (2 * head.loop_len - 2).max(1);
+    }
+    head.loop_len
+}
+
+/// The frame of a loop, from its first, so many steps into a turn.
+fn reflected(head: &SampleHead, steps: u32) -> u32
+    requires head { IsValidHead head.now }
+    requires looped { 1 ≤ head.now.loop_kind }
+    requires steps { steps < sound.turn_of head.now }
+    ensures value { result ≡ sound.reflected head.now steps }
+    ensures within { result < head.now.loop_len }
+{
+    if steps < head.loop_len {
+        return steps;
+    }
+    turn(head) - steps
+}
+
+/// The place of the frame that a voice reaches at `i`, which counts on without ever turning; the place
+/// counts from the sample's first frame. None exactly past the end of a sample without loop.
 #[tactic(auto, unfolding(ft_replay::specs::Sound::place_of))]
 pub fn place(head: &SampleHead, i: u32) -> Option<u32>
+    requires { IsValidHead head.now }
     ensures value { result ≡ sound.place_of head.now i }
     ensures within { IfSome result (λ place. place < head.now.frames) }
 {
-    if i < head.frames { Some(i) } else { None }
+    if head.loop_kind == 0 {
+        return if i < head.frames { Some(i) } else { None };
+    }
+    if i < head.loop_start + head.loop_len {
+        return Some(i);
+    }
+    let steps = (i - head.loop_start) % turn(head);
+    Some(head.loop_start + reflected(head, steps))
 }
 
 /// The value of a raw frame: one of 8 bits counts 256 times.
@@ -34,6 +70,7 @@ fn loudness(raw: i16, wide: bool) -> i32
 
 /// The value of the frame that a channel's voice reaches at `i`; past the end it is 0.
 pub fn value_of<V: SongView>(view: &mut V, channel: u8, head: &SampleHead, i: u32) -> i32
+    requires head { IsValidHead head.now }
     requires channel { channel < length (V.holds view.old) }
     requires kept { V.keeps view.old channel head.now }
     ensures value { mixing.Tells V.shows V.shown view.old view.new (λ shown. result

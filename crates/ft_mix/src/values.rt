@@ -2,6 +2,7 @@
 
 ghost use Rattle.std.specs.Prelude.{◌≡◌, ◌≤◌, ◌<◌, ◌+◌, ◌*◌, ◌/◌, ◌^◌, ℕ, None, Option, length, get_or};
 ghost use Rattle.ft_types.specs.declared.voice.SampleHead.{SampleHead as Head};
+ghost use Rattle.ft_types.specs.Valid.{IsValidHead};
 ghost use Rattle.ft_types.specs.Views.{Owned};
 ghost use Rattle.ft_types.specs.Work as work_of;
 ghost use Rattle.ft_mix.specs.Mixing as mixing;
@@ -42,6 +43,7 @@ fn read_walk<V: SongView>(
 )
     requires channel { voice.channel < length (V.holds view.old) }
     requires kept { V.keeps view.old voice.channel voice.head }
+    requires head { IsValidHead voice.head }
     requires position { position / 2 ^ 32 < 2 ^ 24 }
     requires step { voice.step ≤ 2 ^ 33 }
     requires some { 1 ≤ length values.old }
@@ -76,6 +78,7 @@ fn read_walk<V: SongView>(
 fn read_leaps<V: SongView>(view: &mut V, voice: Voice, position: u64, values: &mut [i32])
     requires channel { voice.channel < length (V.holds view.old) }
     requires kept { V.keeps view.old voice.channel voice.head }
+    requires head { IsValidHead voice.head }
     requires position { position + length values.old * voice.step < 2 ^ 56 }
     ensures values { mixing.Tells V.shows V.shown view.old view.new (λ shown. mixing.AreValues
         voice.head (get_or shown.kept voice.channel None) position voice.step
