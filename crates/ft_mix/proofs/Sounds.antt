@@ -75,3 +75,10 @@ block_end first many frames n few within whole most rest le =
 
 pub in_block : (first many frames k : ℕ) → (many < 256 → first + many ≡ frames) → k < first + 256 → k < frames → k < first + many
 in_block first many frames k whole near lt = by_lt many 256 (λ less. let e = whole less in omega arith) (λ full. omega arith)
+
+-- a block that the whole of a tick goes on after, and its last one
+pub full_block : (first many frames : ℕ) → many ≤ 256 → (many < 256 → first + many ≡ frames) → first + 256 ≤ frames → many ≡ 256
+full_block first many frames few whole le = by_lt many 256 (λ less. let e = whole less in omega arith) (λ full. omega arith)
+
+pub last_block : (first many frames : ℕ) → first + many ≤ frames → (many < 256 → first + many ≡ frames) → frames ≤ first + 256 → first + many ≡ frames
+last_block first many frames within whole le = by_lt many 256 (λ less. whole less) (λ full. omega arith)

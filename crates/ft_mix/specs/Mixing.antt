@@ -1,9 +1,10 @@
 -- What is mixed, the sums of both sides, and what mixing leaves.
-use Rattle.std.specs.Prelude.{ℕ, ◌+◌, ◌*◌, ◌^◌, ◌/◌, ◌<◌, ◌≤◌, FitsSigned, ◌≡◌, ◌≢◌, ◌≤ℤ◌, ◌-ℤ◌, ℤ, pos, ◌+ℤ◌, true, List, [], ◌∷◌, Option, None, get_or}
+use Rattle.std.specs.Prelude.{ℕ, ◌+◌, ◌-◌, ◌*◌, ◌^◌, ◌/◌, ◌==◌, ◌&&◌, ◌<◌, ◌≤◌, Bool, nat_le, if◌then◌else◌, FitsSigned, ◌≡◌, ◌≢◌, ◌≤ℤ◌, ◌-ℤ◌, ℤ, pos, ◌+ℤ◌, true, List, [], ◌∷◌, Option, None, get_or}
 use Rattle.std.specs.Int.{w16}
 use Rattle.ft_types.specs.declared.voice.SampleHead.{SampleHead}
 use Rattle.ft_types.specs.declared.voice.Voice.{Voice}
 use Rattle.ft_types.specs.Views.{Owned, Shown}
+use Rattle.ft_types.specs.Work.{frame_bound, frame_cost, asked, word_of, body_of}
 use Rattle.ft_replay.specs.Range.{IsVoiceInRange}
 use Rattle.ft_replay.specs.Sound.{place_of, value_in, value_at, left_of, right_of, voices_sum, clipped, is_ended}
 use Rattle.ft_mix.specs.declared.line.Line.{Line}
@@ -77,6 +78,37 @@ pub record IsFrame (left_sum right_sum : ℤ) (frame : ℕ) (out : List ℤ) : T
 abbrev pub AreFrames : List (Option Owned) → List Voice → ℕ → List ℤ → Type 0
 AreFrames kept voices frames out =
     (k : ℕ) → k < frames → IsFrame (voices_sum (left_of k) kept voices) (voices_sum (right_of k) kept voices) k out
+
+-- ---- what the calls of a view cost
+
+-- the frame at a place was asked for
+pub record Asked (place before after : ℕ) (kept kept_after : List ℕ) : Type 0 where
+  pub words : kept_after ≡ asked (word_of place) kept
+  pub cost : after ≤ before + frame_cost (word_of place) kept
+
+-- a voice without loop that passes at most one frame of its sample for each frame of output
+abbrev pub is_slow : Voice → Bool
+is_slow voice = (voice.head.loop_kind == 0) && nat_le voice.step (2 ^ 32)
+
+-- one cost for such voices, and another for all others
+abbrev pub cost_by : ℕ → ℕ → Voice → ℕ
+cost_by slow other voice = if is_slow voice then slow else other
+
+-- what mixing so many frames of a voice costs at most, its end too
+abbrev pub voice_cost : ℕ → Voice → ℕ
+voice_cost frames voice = cost_by (frames / 2 + 9) (1 + 2 * frame_bound * frames) voice
+
+-- without its end
+abbrev pub tick_cost : ℕ → Voice → ℕ
+tick_cost frames voice = cost_by (frames / 2 + 8) (2 * frame_bound * frames) voice
+
+-- and a block of at most 256 frames
+abbrev pub block_cost : ℕ → Voice → ℕ
+block_cost frames voice = cost_by (5 + (frames + 3) / 4) (2 * frame_bound * frames) voice
+
+-- going on from a frame to another one, where 256 words stand in a body
+abbrev pub way_cost : ℕ → ℕ → ℕ
+way_cost from to = 3 + (word_of to - word_of from) + 2 * (body_of (word_of to) - body_of (word_of from))
 
 -- ---- what mixing leaves
 

@@ -1,6 +1,7 @@
 //! The frames of a tick, block by block.
 
 ghost use Rattle.std.specs.Prelude.{◌≡◌, ◌≤◌, ◌<◌, ◌+◌, ◌*◌, ◌/◌, ◌%◌, ℕ, pos, All, length, get_or};
+ghost use Rattle.std.specs.List.{sum_by};
 ghost use Rattle.ft_types.specs.Work as work_of;
 ghost use Rattle.ft_replay.specs.Sound as sound;
 ghost use Rattle.ft_mix.specs.Mixing as mixing;
@@ -47,6 +48,8 @@ fn add_voices<V: SongView>(
     ensures keeps { (c : ℕ) (h : SampleHead) → V.keeps view.old c h → V.keeps view.new c h }
     ensures work { (V.work view.old ≤ V.work view.new) × (V.work view.new
         ≤ V.work view.old + length voices.now * (2 * work_of.frame_bound * length left.old)) }
+    ensures cost { V.work view.new
+        ≤ V.work view.old + sum_by (mixing.block_cost (length left.old)) voices.now }
     ensures same { V.same view.old view.new }
 {
     let mut room = [0; 256];
@@ -122,6 +125,8 @@ fn fill_block<V: SongView>(
     ensures keeps { (c : ℕ) (h : SampleHead) → V.keeps view.old c h → V.keeps view.new c h }
     ensures work { (V.work view.old ≤ V.work view.new) × (V.work view.new
         ≤ V.work view.old + length voices.now * (2 * work_of.frame_bound * length left.old)) }
+    ensures cost { V.work view.new
+        ≤ V.work view.old + sum_by (mixing.block_cost (length left.old)) voices.now }
     ensures same { V.same view.old view.new }
 {
     silence(left);
@@ -155,6 +160,8 @@ pub fn fill<V: SongView>(view: &mut V, voices: &[Voice], out: &mut [i16])
     ensures keeps { (c : ℕ) (h : SampleHead) → V.keeps view.old c h → V.keeps view.new c h }
     ensures work { (V.work view.old ≤ V.work view.new) × (V.work view.new
         ≤ V.work view.old + length voices.now * (2 * work_of.frame_bound * (length out.old / 2))) }
+    ensures cost { V.work view.new ≤ V.work view.old
+        + sum_by (mixing.tick_cost (length out.old / 2)) voices.now }
     ensures same { V.same view.old view.new }
 {
     let frames = out.len() / 2;

@@ -51,6 +51,8 @@ pub fn read_lines<V: SongView>(
     ensures keeps { (c : ℕ) (h : SampleHead) → V.keeps view.old c h → V.keeps view.new c h }
     ensures work { (V.work view.old ≤ V.work view.new) × (V.work view.new
         ≤ V.work view.old + work_of.frame_bound * (length lines.old + 1)) }
+    ensures cost { head.now.loop_kind ≡ 0 → V.work view.new
+        ≤ V.work view.old + mixing.way_cost at (at + length lines.old) }
     ensures same { V.same view.old view.new }
 {
     let mut next = at;

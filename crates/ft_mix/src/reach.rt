@@ -1,6 +1,6 @@
 //! The places of a sample that are reached, and their values.
 
-ghost use Rattle.std.specs.Prelude.{◌≡◌, ◌≤◌, ◌<◌, ◌+◌, ◌*◌, ◌≤ℤ◌, ℕ, pos, negsuc, None, IfSome, FitsSigned, length, get_or};
+ghost use Rattle.std.specs.Prelude.{◌≡◌, ◌≤◌, ◌<◌, ◌+◌, ◌*◌, ◌≤ℤ◌, ℕ, pos, negsuc, [], None, Some, IfSome, FitsSigned, length, get_or};
 ghost use Rattle.ft_types.specs.Valid.{width_of, IsValidHead};
 ghost use Rattle.ft_types.specs.Work as work_of;
 ghost use Rattle.ft_replay.specs.Sound as sound;
@@ -81,6 +81,10 @@ pub fn value_of<V: SongView>(view: &mut V, channel: u8, head: &SampleHead, i: u3
     ensures keeps { (c : ℕ) (h : SampleHead) → V.keeps view.old c h → V.keeps view.new c h }
     ensures work { (V.work view.old ≤ V.work view.new)
         × (V.work view.new ≤ V.work view.old + work_of.frame_bound) }
+    ensures asks { (place : ℕ) → sound.place_of head.now i ≡ Some place → mixing.Asked place
+        (V.work view.old) (V.work view.new)
+        (get_or (V.words view.old) channel []) (get_or (V.words view.new) channel []) }
+    ensures rests { sound.place_of head.now i ≡ None → V.work view.new ≤ V.work view.old }
     ensures same { V.same view.old view.new }
 {
     let Some(place) = place(head, i) else {

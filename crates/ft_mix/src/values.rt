@@ -59,6 +59,8 @@ fn read_walk<V: SongView>(
     ensures keeps { (c : ℕ) (h : Head) → V.keeps view.old c h → V.keeps view.new c h }
     ensures work { (V.work view.old ≤ V.work view.new) × (V.work view.new
         ≤ V.work view.old + 2 * work_of.frame_bound * length values.old) }
+    ensures cost { voice.head.loop_kind ≡ 0 → voice.step ≤ 2 ^ 32 → V.work view.new
+        ≤ V.work view.old + (5 + (length values.old + 3) / 4) }
     ensures same { V.same view.old view.new }
 {
     let start = position % (1 << 32);
@@ -123,6 +125,8 @@ pub fn read_values<V: SongView>(
     ensures keeps { (c : ℕ) (h : Head) → V.keeps view.old c h → V.keeps view.new c h }
     ensures work { (V.work view.old ≤ V.work view.new) × (V.work view.new
         ≤ V.work view.old + 2 * work_of.frame_bound * length values.old) }
+    ensures cost { V.work view.new
+        ≤ V.work view.old + mixing.block_cost (length values.old) voice }
     ensures same { V.same view.old view.new }
 {
     let position = voice.pos + u64::from(first) * voice.step;

@@ -48,6 +48,7 @@ pub fn add_voice<V: SongView>(
     ensures keeps { (c : ℕ) (h : SampleHead) → V.keeps view.old c h → V.keeps view.new c h }
     ensures work { (V.work view.old ≤ V.work view.new) × (V.work view.new
         ≤ V.work view.old + 2 * work_of.frame_bound * length left.old) }
+    ensures cost { V.work view.new ≤ V.work view.old + mixing.block_cost (length left.old) voice }
     ensures same { V.same view.old view.new }
 {
     read_values(view, voice, first, lines, values);

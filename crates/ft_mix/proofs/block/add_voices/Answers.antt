@@ -1,7 +1,9 @@
-use Rattle.std.proofs.Common.{◌≡◌, ◌+◌, ◌<◌, ℕ, ℤ, pos, ◌+ℤ◌, List, Option, None, get_or, length, drop, ap, ◌∙◌, arith}
+use Rattle.std.proofs.Common.{◌≡◌, ◌+◌, ◌<◌, ℕ, ℤ, pos, ◌+ℤ◌, List, Option, None, get_or, length, drop, ap, subst, ◌≤◌, ◌∙◌, arith}
+use Rattle.std.proofs.lemmas.List.Sums.{sum_by-drop_more}
 use Rattle.ft_types.specs.declared.voice.Voice.{Voice}
 use Rattle.ft_types.specs.Views.{Owned, Shown}
 use Rattle.ft_replay.specs.Sound.{voices_sum, left_of, right_of}
+use Rattle.ft_mix.specs.Mixing.{block_cost}
 use Rattle.ft_mix.proofs.Sums.{no_voice, next_voice, sum_on}
 use Rattle.ft_mix.proofs.block.add_voices.Goals as goal
 
@@ -47,5 +49,10 @@ loop-voice-preserved g c =
       holds = c.add_voice.ensures.holds ∙ c.loop-voice.invariant.holds;
       keeps = λ k h s. c.add_voice.ensures.keeps k h (c.loop-voice.invariant.keeps k h s);
       work = omega arith;
+      cost =
+          let left = sum_by-drop_more (block_cost (length c.args.left.now)) voices i no_voice c.loop-voice-test.true in
+          let more = subst (λ (n : ℕ). g.V.SongView.work c.add_voice.new.view ≤ g.V.SongView.work c.loop-voice.view + block_cost n (get_or voices i no_voice)) many c.add_voice.ensures.cost in
+          let so_far = c.loop-voice.invariant.cost in
+          omega arith;
       same = g.met.V.SongView.same_through _ _ _ c.loop-voice.invariant.same c.add_voice.ensures.same;
     }

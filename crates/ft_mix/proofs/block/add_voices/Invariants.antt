@@ -1,4 +1,5 @@
 use Rattle.std.proofs.Common.{◌≡◌, ◌≤◌, ◌<◌, ◌+◌, ◌*◌, ◌+ℤ◌, ℕ, pos, length, get_or, drop}
+use Rattle.std.specs.List.{sum_by}
 use Rattle.ft_types.specs.declared.voice.SampleHead.{SampleHead}
 use Rattle.ft_types.specs.Work as work_of
 use Rattle.ft_replay.specs.Sound as sound
@@ -23,5 +24,7 @@ invariant-loop-voice g l = record {
   keeps : (c : ℕ) (h : SampleHead) → g.V.SongView.keeps l.fn.view c h → g.V.SongView.keeps l.view c h;
   work : (g.V.SongView.work l.fn.view ≤ g.V.SongView.work l.view)
       × (g.V.SongView.work l.view ≤ g.V.SongView.work l.fn.view + l.voice-index * (2 * work_of.frame_bound * length l.fn.left));
+  cost : g.V.SongView.work l.view + sum_by (mixing.block_cost (length l.fn.left)) (drop l.voice-index l.voices)
+      ≤ g.V.SongView.work l.fn.view + sum_by (mixing.block_cost (length l.fn.left)) l.voices;
   same : g.V.SongView.same l.fn.view l.view;
 }

@@ -1,9 +1,11 @@
 use Rattle.std.proofs.Common.{rules, sym, ◌≡◌, ◌<◌, ◌≤◌, ◌+◌, ◌*◌, ◌/◌, ℕ, length, take, subst, ◌∙◌, arith}
+use Rattle.std.specs.List.{sum_by}
 use Rattle.std.proofs.lemmas.List.{length-take-le}
 use Rattle.ft_types.specs.Views.{Shown}
 use Rattle.ft_replay.specs.Sound.{voices_sum, left_of, right_of}
-use Rattle.ft_mix.specs.Mixing.{IsFrame}
-use Rattle.ft_mix.proofs.Sounds.{more_frames, block_end, in_block, sound_is}
+use Rattle.ft_mix.specs.Mixing.{IsFrame, block_cost}
+use Rattle.ft_mix.proofs.Costs.{costs_more}
+use Rattle.ft_mix.proofs.Sounds.{full_block, last_block, more_frames, block_end, in_block, sound_is}
 use Rattle.ft_mix.proofs.block.fill.Goals as goal
 
 pub loop-block-preserved : goal.loop-block-preserved
@@ -15,6 +17,7 @@ loop-block-preserved g c =
     let within = c.block_len-many.ensures.within in
     let whole = c.block_len-many.ensures.whole in
     let lent : length (take many c.loop-block.left) ≡ many = length-take-le many c.loop-block.left (search rules) in
+    let cost = subst (λ (n : ℕ). g.V.SongView.work c.fill_block.new.view ≤ g.V.SongView.work c.loop-block.view + sum_by (block_cost n) c.args.voices.now) lent c.fill_block.ensures.cost in
     record {
       frames = λ w is.
           let a = c.fill_block.ensures.frames w is in
@@ -37,6 +40,16 @@ loop-block-preserved g c =
           let before = c.loop-block.invariant.work (256 * block) (omega arith) (λ lt. absurd (omega arith)) (omega arith) in
           let now = subst (λ (x : ℕ). g.V.SongView.work c.fill_block.new.view ≤ g.V.SongView.work c.loop-block.view + length c.args.voices.now * (6 * x)) lent c.fill_block.ensures.work.1 in
           subst (λ (x : ℕ). g.V.SongView.work c.fill_block.new.view ≤ g.V.SongView.work c.args.view.now + length c.args.voices.now * (6 * x)) (sym same) (omega arith);
+      whole = λ le.
+          let full : many ≡ 256 = full_block (256 * block) many (length c.args.out.now / 2) few whole (omega arith) in
+          let before = c.loop-block.invariant.whole (omega arith) in
+          let sums = costs_more (256 * block / 2) (6 * (256 * block)) (5 + (many + 3) / 4) (6 * many) (256 * (block + 1) / 2) (6 * (256 * (block + 1))) c.args.voices.now (omega arith) (omega arith) in
+          omega (arith, cost);
+      all = λ le.
+          let last : 256 * block + many ≡ length c.args.out.now / 2 = last_block (256 * block) many (length c.args.out.now / 2) within whole (omega arith) in
+          let before = c.loop-block.invariant.whole (omega arith) in
+          let sums = costs_more (256 * block / 2) (6 * (256 * block)) (5 + (many + 3) / 4) (6 * many) (length c.args.out.now / 2 / 2 + 8) (6 * (length c.args.out.now / 2)) c.args.voices.now (omega arith) (omega arith) in
+          omega (arith, cost);
       same = g.met.V.SongView.same_through _ _ _ c.loop-block.invariant.same c.fill_block.ensures.same;
     }
 

@@ -1,4 +1,5 @@
-use Rattle.std.proofs.Common.{◌≡◌, ◌≤◌, ◌<◌, ◌+◌, ◌*◌, ℕ, length}
+use Rattle.std.proofs.Common.{◌≡◌, ◌≤◌, ◌<◌, ◌+◌, ◌*◌, ◌/◌, ℕ, length}
+use Rattle.std.specs.List.{sum_by}
 use Rattle.ft_types.specs.declared.voice.SampleHead.{SampleHead}
 use Rattle.ft_types.specs.Work as work_of
 use Rattle.ft_replay.specs.Sound as sound
@@ -16,5 +17,7 @@ invariant-loop-block g l = record {
   keeps : (c : ℕ) (h : SampleHead) → g.V.SongView.keeps l.fn.view c h → g.V.SongView.keeps l.view c h;
   rising : g.V.SongView.work l.fn.view ≤ g.V.SongView.work l.view;
   work : (n : ℕ) → n ≤ 256 * l.block → (n < 256 * l.block → n ≡ l.frames) → n ≤ l.frames → g.V.SongView.work l.view ≤ g.V.SongView.work l.fn.view + length l.voices * (2 * work_of.frame_bound * n);
+  whole : 256 * l.block ≤ l.frames → g.V.SongView.work l.view ≤ g.V.SongView.work l.fn.view + sum_by (mixing.cost_by (256 * l.block / 2) (6 * (256 * l.block))) l.voices;
+  all : l.frames ≤ 256 * l.block → g.V.SongView.work l.view ≤ g.V.SongView.work l.fn.view + sum_by (mixing.tick_cost l.frames) l.voices;
   same : g.V.SongView.same l.fn.view l.view;
 }

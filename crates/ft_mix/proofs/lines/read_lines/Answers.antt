@@ -7,6 +7,7 @@ use Rattle.ft_replay.specs.Sound.{value_in, place_of}
 use Rattle.ft_mix.specs.declared.line.Line.{Line}
 use Rattle.ft_mix.specs.Mixing.{IsLine, IsLineInRange, flat}
 use Rattle.ft_mix.proofs.Stored.{more}
+use Rattle.ft_mix.proofs.Costs.{begins, goes_on, newest_is}
 use Rattle.ft_mix.proofs.lines.read_lines.Goals as goal
 
 pub loop-line-preserved : goal.loop-line-preserved
@@ -44,5 +45,25 @@ loop-line-preserved g c =
       holds = c.value_of-second.ensures.holds ∙ c.loop-line.invariant.holds;
       keeps = λ k h s. c.value_of-second.ensures.keeps k h (c.loop-line.invariant.keeps k h s);
       work = omega arith;
+      cost = λ none. goes_on head c.args.at next (g.V.SongView.work c.args.view.now) _ _ _ _ none (omega arith) (c.loop-line.invariant.newest none) (c.loop-line.invariant.cost none) c.value_of-second.ensures.asks c.value_of-second.ensures.rests;
+      newest = λ none. newest_is head (next + 1) _ _ _ _ none c.value_of-second.ensures.asks;
       same = g.met.V.SongView.same_through _ _ _ c.loop-line.invariant.same c.value_of-second.ensures.same;
     }
+
+pub loop-line-init : goal.loop-line-init
+loop-line-init g c = record {
+  next = omega arith;
+  lines = λ w is.
+      let a = c.value_of-first.ensures.value w is in
+      (a.0, a.1, to_z-of_z w32 c.value_of-first.result (search rules) ∙ a.2, λ j lt. absurd (omega arith));
+  first =
+      let narrow : FitsSigned w16 c.value_of-first.result = omega (arith, ints) in
+      subst (FitsSigned w16) (sym (to_z-of_z w32 c.value_of-first.result (search rules))) narrow;
+  range = λ j lt. absurd (omega arith);
+  holds = c.value_of-first.ensures.holds;
+  keeps = c.value_of-first.ensures.keeps;
+  work = omega arith;
+  cost = λ none. begins c.args.head.now c.args.at _ _ _ _ none c.value_of-first.ensures.asks c.value_of-first.ensures.rests;
+  newest = λ none. newest_is c.args.head.now c.args.at _ _ _ _ none c.value_of-first.ensures.asks;
+  same = c.value_of-first.ensures.same;
+}

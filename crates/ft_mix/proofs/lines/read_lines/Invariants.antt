@@ -1,4 +1,4 @@
-use Rattle.std.proofs.Common.{◌≡◌, ◌≤◌, ◌+◌, ◌*◌, ℕ, None, get_or}
+use Rattle.std.proofs.Common.{◌≡◌, ◌≤◌, ◌<◌, ◌+◌, ◌*◌, ℕ, List, [], None, get_or}
 use Rattle.std.specs.Int.{w16}
 use Rattle.std.specs.Prelude.{FitsSigned}
 use Rattle.ft_types.specs.declared.voice.SampleHead.{SampleHead}
@@ -19,5 +19,7 @@ invariant-loop-line g l = record {
   keeps : (c : ℕ) (h : SampleHead) → g.V.SongView.keeps l.fn.view c h → g.V.SongView.keeps l.view c h;
   work : (g.V.SongView.work l.fn.view ≤ g.V.SongView.work l.view)
       × (g.V.SongView.work l.view ≤ g.V.SongView.work l.fn.view + work_of.frame_bound * (l.line-index + 1));
+  cost : l.head.loop_kind ≡ 0 → g.V.SongView.work l.view ≤ g.V.SongView.work l.fn.view + mixing.way_cost l.at l.next;
+  newest : l.head.loop_kind ≡ 0 → l.next < l.head.frames → (older : List ℕ) × (get_or (g.V.SongView.words l.view) l.channel [] ≡ work_of.asked (work_of.word_of l.next) older);
   same : g.V.SongView.same l.fn.view l.view;
 }
