@@ -29,8 +29,8 @@ pub fn read_line<V: SongView>(view: &mut V, channel: u8, head: &SampleHead, at: 
     line_between(first, second)
 }
 
-/// The lines from the frame that a channel's voice reaches at `at` on, one after the other. The view
-/// is asked once for each frame at their ends.
+/// The lines from the frame that a channel's voice reaches at `at` on, one after the other. The
+/// view is asked once for each frame at their ends.
 pub fn read_lines<V: SongView>(
     view: &mut V,
     channel: u8,

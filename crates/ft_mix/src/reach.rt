@@ -36,8 +36,8 @@ fn reflected(head: &SampleHead, steps: u32) -> u32
     turn(head) - steps
 }
 
-/// The place of the frame that a voice reaches at `i`, which counts on without ever turning; the place
-/// counts from the sample's first frame. None exactly past the end of a sample without loop.
+/// The place of the frame that a voice reaches at `i`, counted from the sample's first frame; `i`
+/// counts on through the turns of a loop. None exactly past the end of a sample without loop.
 #[tactic(auto, unfolding(ft_replay::specs::Sound::place_of))]
 pub fn place(head: &SampleHead, i: u32) -> Option<u32>
     requires { IsValidHead head.now }

@@ -17,7 +17,8 @@ fn walk(lines: &[Line], start: u64, step: u64, values: &mut [i32])
     requires start { start < 2 ^ 32 }
     requires step { step ≤ 2 ^ 33 }
     requires few { length values.old ≤ 3751 }
-    requires lines { (k : ℕ) → k < length values.old → (start + k * step) / 2 ^ 32 < length lines.now }
+    requires lines { (k : ℕ) → k < length values.old
+        → (start + k * step) / 2 ^ 32 < length lines.now }
     requires range { mixing.AreLinesInRange (length lines.now) lines.now }
     ensures values { (head : Head) (owned : Option Owned) (at : ℕ)
         → mixing.AreLines head owned at (length lines.now) lines.now
@@ -32,8 +33,8 @@ fn walk(lines: &[Line], start: u64, step: u64, values: &mut [i32])
     }
 }
 
-/// The values of a voice from a position on, where it moves by at most two frames at once: first all
-/// lines that it reaches are read, and then it walks on them.
+/// The values of a voice from a position on, where it moves by at most two frames at once: first
+/// all lines that it reaches are read, and then it walks on them.
 fn read_walk<V: SongView>(
     view: &mut V,
     voice: Voice,

@@ -10,8 +10,8 @@ use crate::line::Line;
 use crate::values::read_values;
 use ft_types::{SampleHead, SongView, Voice};
 
-/// Adds what a voice adds to both sides of the frames of its tick from `first` on. What the lent lines
-/// and values hold afterwards isn't said.
+/// Adds what a voice adds to both sides of the frames of its tick from `first` on. What the lent
+/// lines and values hold afterwards isn't said.
 pub fn add_voice<V: SongView>(
     view: &mut V,
     voice: Voice,
