@@ -3,17 +3,25 @@
 ghost use Rattle.std.specs.Prelude.{◌≡◌, ◌≤◌, ◌<◌, ◌+◌, ◌*◌, ◌^◌, ℕ, None, length, get_or};
 ghost use Rattle.ft_types.specs.Valid.{IsValidHead};
 ghost use Rattle.ft_types.specs.Work as work_of;
+ghost use Rattle.ft_replay.specs.Sound as sound;
 ghost use Rattle.ft_mix.specs.Mixing as mixing;
 
 use crate::line::{Line, line_between};
-use crate::reach::value_of;
+use crate::reach::{end, value_of};
 use ft_types::{SampleHead, SongView};
 
 /// The line from the frame that a channel's voice reaches at `at`.
-pub fn read_line<V: SongView>(view: &mut V, channel: u8, head: &SampleHead, at: u32) -> Line
+pub fn read_line<V: SongView>(
+    view: &mut V,
+    channel: u8,
+    head: &SampleHead,
+    end: u32,
+    at: u32,
+) -> Line
     requires channel { channel < length (V.holds view.old) }
     requires kept { V.keeps view.old channel head.now }
     requires head { IsValidHead head.now }
+    requires end { end ≡ sound.end_of head.now }
     requires at { at < 2 ^ 24 }
     ensures line { mixing.Tells V.shows V.shown view.old view.new
         (λ shown. mixing.IsLine head.now (get_or shown.kept channel None) at result) }
@@ -24,8 +32,8 @@ pub fn read_line<V: SongView>(view: &mut V, channel: u8, head: &SampleHead, at: 
         × (V.work view.new ≤ V.work view.old + 2 * work_of.frame_bound) }
     ensures same { V.same view.old view.new }
 {
-    let first = value_of(view, channel, head, at);
-    let second = value_of(view, channel, head, at + 1);
+    let first = value_of(view, channel, head, end, at);
+    let second = value_of(view, channel, head, end, at + 1);
     line_between(first, second)
 }
 
@@ -55,11 +63,12 @@ pub fn read_lines<V: SongView>(
         ≤ V.work view.old + mixing.way_cost at (at + length lines.old) }
     ensures same { V.same view.old view.new }
 {
+    let end = end(head);
     let mut next = at;
-    let mut first = value_of(view, channel, head, at);
+    let mut first = value_of(view, channel, head, end, at);
     for line in lines.iter_mut() {
         next += 1;
-        let second = value_of(view, channel, head, next);
+        let second = value_of(view, channel, head, end, next);
         *line = line_between(first, second);
         first = second;
     }

@@ -36,8 +36,21 @@ fn reflected(head: &SampleHead, steps: u32) -> u32
     turn(head) - steps
 }
 
+/// Past the last frame of a loop, or of a sample without one.
+pub fn end(head: &SampleHead) -> u32
+    requires { IsValidHead head.now }
+    ensures value { result ≡ sound.end_of head.now }
+    ensures within { result ≤ head.now.frames }
+{
+    if head.loop_kind == 0 {
+        return head.frames;
+    }
+    head.loop_start + head.loop_len
+}
+
 /// The place of the frame that a voice reaches at `i`, counted from the sample's first frame; `i`
 /// counts on through the turns of a loop. None exactly past the end of a sample without loop.
+#[inline(never)]
 #[tactic(auto, unfolding(ft_replay::specs::Sound::place_of))]
 pub fn place(head: &SampleHead, i: u32) -> Option<u32>
     requires { IsValidHead head.now }
@@ -54,6 +67,20 @@ pub fn place(head: &SampleHead, i: u32) -> Option<u32>
     Some(head.loop_start + reflected(head, steps))
 }
 
+/// The same, where the end of the loop or of the sample is at hand: before it nothing is asked.
+#[tactic(auto, unfolding(ft_replay::specs::Sound::place_of))]
+fn place_by(head: &SampleHead, end: u32, i: u32) -> Option<u32>
+    requires head { IsValidHead head.now }
+    requires end { end ≡ sound.end_of head.now }
+    ensures value { result ≡ sound.place_of head.now i }
+    ensures within { IfSome result (λ place. place < head.now.frames) }
+{
+    if i < end {
+        return Some(i);
+    }
+    place(head, i)
+}
+
 /// The value of a raw frame: one of 8 bits counts 256 times.
 fn loudness(raw: i16, wide: bool) -> i32
     requires { FitsSigned (width_of wide) raw }
@@ -68,9 +95,11 @@ fn loudness(raw: i16, wide: bool) -> i32
     }
 }
 
-/// The value of the frame that a channel's voice reaches at `i`; past the end it is 0.
-pub fn value_of<V: SongView>(view: &mut V, channel: u8, head: &SampleHead, i: u32) -> i32
+/// The value of the frame that a channel's voice reaches at `i`; past the end of a sample without
+/// loop it is 0. The end of the loop, or of the sample, is at hand.
+pub fn value_of<V: SongView>(view: &mut V, channel: u8, head: &SampleHead, end: u32, i: u32) -> i32
     requires head { IsValidHead head.now }
+    requires end { end ≡ sound.end_of head.now }
     requires channel { channel < length (V.holds view.old) }
     requires kept { V.keeps view.old channel head.now }
     ensures value { mixing.Tells V.shows V.shown view.old view.new (λ shown. result
@@ -87,7 +116,7 @@ pub fn value_of<V: SongView>(view: &mut V, channel: u8, head: &SampleHead, i: u3
     ensures rests { sound.place_of head.now i ≡ None → V.work view.new ≤ V.work view.old }
     ensures same { V.same view.old view.new }
 {
-    let Some(place) = place(head, i) else {
+    let Some(place) = place_by(head, end, i) else {
         return 0;
     };
     loudness(view.frame(channel, place), head.wide)

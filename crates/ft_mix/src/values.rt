@@ -9,6 +9,7 @@ ghost use Rattle.ft_mix.specs.Mixing as mixing;
 
 use crate::line::{Line, value_on};
 use crate::lines::{read_line, read_lines};
+use crate::reach::end;
 use ft_types::{SongView, Voice};
 
 /// The values from a place on the first of some lines on, each a step after the one before. Places
@@ -94,9 +95,10 @@ fn read_leaps<V: SongView>(view: &mut V, voice: Voice, position: u64, values: &m
         ≤ V.work view.old + 2 * work_of.frame_bound * length values.old) }
     ensures same { V.same view.old view.new }
 {
+    let end = end(&voice.head);
     let mut place = position;
     for value in values.iter_mut() {
-        let line = read_line(view, voice.channel, &voice.head, (place >> 32) as u32);
+        let line = read_line(view, voice.channel, &voice.head, end, (place >> 32) as u32);
         *value = value_on(line, (place % (1 << 32)) as u32);
         place += voice.step;
     }

@@ -19,14 +19,15 @@ turn_of head = if head.loop_kind == 2 then max 1 (2 * head.loop_len - 2) else he
 abbrev pub reflected : SampleHead → ℕ → ℕ
 reflected head steps = if nat_lt steps head.loop_len then steps else turn_of head - steps
 
-abbrev pub is_before_end : SampleHead → ℕ → Bool
-is_before_end head frame = nat_lt frame (if head.loop_kind == 0 then head.frames else head.loop_start + head.loop_len)
+-- past the last frame of a loop, or of a sample without one
+abbrev pub end_of : SampleHead → ℕ
+end_of head = if head.loop_kind == 0 then head.frames else head.loop_start + head.loop_len
 
 -- the place of a frame that is reached, which counts on without ever turning: up to the end of the loop, or of a sample without
 -- one, it is that place; past the end of a loop it is found by whole turns, and past the end of a sample there is none
 unfoldable pub place_of : SampleHead → ℕ → Option ℕ
 place_of head frame =
-    if is_before_end head frame then Some frame
+    if nat_lt frame (end_of head) then Some frame
     else (if head.loop_kind == 0 then None
     else Some (head.loop_start + reflected head ((frame - head.loop_start) % turn_of head)))
 
