@@ -1,5 +1,5 @@
 -- What the calls of a view cost, voice by voice.
-use Rattle.std.proofs.Common.{◌≡◌, ◌≢◌, ℕ, zero, suc, ◌+◌, ◌-◌, ◌*◌, ◌/◌, ◌^◌, ◌<◌, ◌≤◌, ◌==◌, ◌&&◌, Bool, true, false, List, [], ◌∷◌, length, Option, None, Some, ltb, lt-ltb, le-ltb, if◌then◌else◌, ◌||◌, refl, ap, sym, ◌∙◌, subst, arith}
+use Rattle.std.proofs.Common.{◌≡◌, ◌≢◌, ℕ, suc, ◌+◌, ◌-◌, ◌*◌, ◌<◌, ◌≤◌, ◌==◌, Bool, true, false, List, [], ◌∷◌, length, Option, None, Some, ltb, lt-ltb, le-ltb, if◌then◌else◌, refl, ap, sym, ◌∙◌, subst, arith}
 use Rattle.std.specs.List.{sum_by}
 use Rattle.std.specs.Prelude.{nat_lt, ◌%◌}
 use Rattle.std.proofs.lemmas.Bool.{cond_both, or_parts, eqb-true, eqb-false, eq-eqb, ltb-true, ltb-false}

@@ -1,4 +1,4 @@
-use Rattle.std.proofs.Common.{◌≡◌, ◌+◌, ◌<◌, ℕ, ℤ, pos, ◌+ℤ◌, List, Option, None, get_or, length, drop, ap, subst, ◌≤◌, ◌∙◌, arith}
+use Rattle.std.proofs.Common.{◌≡◌, ◌+◌, ◌<◌, ℕ, ℤ, ◌+ℤ◌, List, Option, None, get_or, length, drop, ap, subst, ◌≤◌, ◌∙◌, arith}
 use Rattle.std.proofs.lemmas.List.Sums.{sum_by-drop_more}
 use Rattle.ft_types.specs.declared.voice.Voice.{Voice}
 use Rattle.ft_types.specs.Views.{Owned, Shown}

@@ -1,4 +1,4 @@
-use Rattle.std.proofs.Common.{rules, ◌≡◌, ◌+◌, ◌∙◌, ℕ, ℤ, to_z, of_z, None, get_or, ap}
+use Rattle.std.proofs.Common.{rules, ◌+◌, ◌∙◌, ℕ, ℤ, to_z, of_z, None, get_or, ap}
 use Rattle.std.specs.Int.{w32}
 use Rattle.std.specs.Prelude.{◌-ℤ◌}
 use Rattle.std.proofs.lemmas.Int.{to_z-of_z}
