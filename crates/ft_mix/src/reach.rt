@@ -50,7 +50,6 @@ pub fn end(head: &SampleHead) -> u32
 
 /// The place of the frame that a voice reaches at `i`, counted from the sample's first frame; `i`
 /// counts on through the turns of a loop. None exactly past the end of a sample without loop.
-#[inline(never)]
 #[tactic(auto, unfolding(ft_replay::specs::Sound::place_of))]
 pub fn place(head: &SampleHead, i: u32) -> Option<u32>
     requires { IsValidHead head.now }
@@ -65,20 +64,6 @@ pub fn place(head: &SampleHead, i: u32) -> Option<u32>
     }
     let steps = (i - head.loop_start) % turn(head);
     Some(head.loop_start + reflected(head, steps))
-}
-
-/// The same, where the end of the loop or of the sample is at hand: before it nothing is asked.
-#[tactic(auto, unfolding(ft_replay::specs::Sound::place_of))]
-fn place_by(head: &SampleHead, end: u32, i: u32) -> Option<u32>
-    requires head { IsValidHead head.now }
-    requires end { end ≡ sound.end_of head.now }
-    ensures value { result ≡ sound.place_of head.now i }
-    ensures within { IfSome result (λ place. place < head.now.frames) }
-{
-    if i < end {
-        return Some(i);
-    }
-    place(head, i)
 }
 
 /// The value of a raw frame: one of 8 bits counts 256 times.
@@ -96,7 +81,35 @@ fn loudness(raw: i16, wide: bool) -> i32
 }
 
 /// The value of the frame that a channel's voice reaches at `i`; past the end of a sample without
-/// loop it is 0. The end of the loop, or of the sample, is at hand.
+/// loop it is 0.
+#[cold]
+#[inline(never)]
+fn value_past<V: SongView>(view: &mut V, channel: u8, head: &SampleHead, i: u32) -> i32
+    requires head { IsValidHead head.now }
+    requires channel { channel < length (V.holds view.old) }
+    requires kept { V.keeps view.old channel head.now }
+    ensures value { mixing.Tells V.shows V.shown view.old view.new (λ shown. result
+        ≡ sound.value_in head.now (get_or shown.kept channel None) (sound.place_of head.now i)) }
+    ensures low { negsuc 32767 ≤ℤ result }
+    ensures high { result ≤ℤ pos 32767 }
+    ensures holds { V.holds view.new ≡ V.holds view.old }
+    ensures keeps { (c : ℕ) (h : SampleHead) → V.keeps view.old c h → V.keeps view.new c h }
+    ensures work { (V.work view.old ≤ V.work view.new)
+        × (V.work view.new ≤ V.work view.old + work_of.frame_bound) }
+    ensures asks { (place : ℕ) → sound.place_of head.now i ≡ Some place → mixing.Asked place
+        (V.work view.old) (V.work view.new)
+        (get_or (V.words view.old) channel []) (get_or (V.words view.new) channel []) }
+    ensures rests { sound.place_of head.now i ≡ None → V.work view.new ≤ V.work view.old }
+    ensures same { V.same view.old view.new }
+{
+    let Some(place) = place(head, i) else {
+        return 0;
+    };
+    loudness(view.frame(channel, place), head.wide)
+}
+
+/// The same, where the end of the loop or of the sample is at hand, so that a frame before it is
+/// asked for at once.
 pub fn value_of<V: SongView>(view: &mut V, channel: u8, head: &SampleHead, end: u32, i: u32) -> i32
     requires head { IsValidHead head.now }
     requires end { end ≡ sound.end_of head.now }
@@ -116,8 +129,8 @@ pub fn value_of<V: SongView>(view: &mut V, channel: u8, head: &SampleHead, end: 
     ensures rests { sound.place_of head.now i ≡ None → V.work view.new ≤ V.work view.old }
     ensures same { V.same view.old view.new }
 {
-    let Some(place) = place_by(head, end, i) else {
-        return 0;
-    };
-    loudness(view.frame(channel, place), head.wide)
+    if i < end {
+        return loudness(view.frame(channel, i), head.wide);
+    }
+    value_past(view, channel, head, i)
 }
