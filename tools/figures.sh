@@ -55,7 +55,7 @@ if command -v rustc >/dev/null; then
     }
     short=$(loop_count 88200)
     long=$(loop_count 264600)
-    awk -v s="$short" -v l="$long" 'BEGIN { printf "  the same loop in plain Rust: %.2f\n", (l - s) / (4 * 44100 * 32) }'
+    awk -v s="$short" -v l="$long" 'BEGIN { printf "  a loop over frames in plain Rust: %.2f\n", (l - s) / (4 * 44100 * 32) }'
 fi
 echo "60 seconds of 8 voices:"
 /usr/bin/time -f '  %U s' "$program" step "$work/eight.xm" "$work/out.wav" ledger --seconds=60

@@ -1,4 +1,4 @@
-// The mixing loop of ft_plain in plain Rust, to compare its instructions with the proved one's.
+// Mixing in plain Rust, frame by frame, to compare its instructions with the proved mixer's.
 // Arguments: the number of frames. It mixes 32 voices, tick by tick, as the replayer does.
 
 #[derive(Clone, Copy)]

@@ -1,5 +1,7 @@
 mod Floor
 mod Parts
+mod Stored
+mod Costs
 mod Sums
 mod Sounds
 mod After

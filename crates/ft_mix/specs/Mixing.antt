@@ -1,14 +1,13 @@
 -- What is mixed, the sums of both sides, and what mixing leaves.
-use Rattle.std.specs.Prelude.{ℕ, ◌+◌, ◌*◌, ◌^◌, ◌/◌, ◌<◌, ◌≤◌, FitsSigned, ◌≡◌, ◌≢◌, ◌≤ℤ◌, ◌-ℤ◌, ℤ, pos, ◌+ℤ◌, true, List, [], ◌∷◌, Option, None, get_or}
+use Rattle.std.specs.Prelude.{ℕ, ◌+◌, ◌-◌, ◌*◌, ◌^◌, ◌/◌, ◌==◌, ◌&&◌, ◌<◌, ◌≤◌, Bool, nat_le, if◌then◌else◌, FitsSigned, ◌≡◌, ◌≢◌, ◌≤ℤ◌, ◌-ℤ◌, ℤ, pos, ◌+ℤ◌, true, List, [], ◌∷◌, Option, get_or}
 use Rattle.std.specs.Int.{w16}
 use Rattle.ft_types.specs.declared.voice.SampleHead.{SampleHead}
 use Rattle.ft_types.specs.declared.voice.Voice.{Voice}
 use Rattle.ft_types.specs.Views.{Owned, Shown}
+use Rattle.ft_types.specs.Work.{frame_bound, frame_cost, asked, word_of, body_of}
 use Rattle.ft_replay.specs.Range.{IsVoiceInRange}
-use Rattle.ft_replay.specs.Sound.{place_of, value_in, gained, left_of, right_of, clipped, is_ended}
-use Rattle.ft_mix.specs.declared.pair.Pair.{Pair}
+use Rattle.ft_replay.specs.Sound.{place_of, value_in, value_at, left_of, right_of, voices_sum, clipped, is_ended}
 use Rattle.ft_mix.specs.declared.line.Line.{Line}
-use Rattle.ft_mix.specs.declared.sides.Sides.{Sides}
 
 -- ---- what is asked of a view
 
@@ -23,61 +22,93 @@ abbrev pub Tells : {V W : Type 0} → (V → W → Type 0) → (V → W → Show
 Tells {W = W} shows shown view view_after answer =
     (w : W) → shows view_after w → shows view w × (shown view_after w ≡ shown view w) × answer (shown view w)
 
--- ---- two values at hand
+-- ---- lines between two values
 
--- the values of the frames that are reached at a place and next
-pub record IsPair (head : SampleHead) (owned : Option Owned) (pair : Pair) : Type 0 where
-  pub first : pair.first ≡ value_in head owned (place_of head pair.at)
-  pub second : pair.second ≡ value_in head owned (place_of head (pair.at + 1))
+-- the line from the frame that is reached at a place to the next
+pub record IsLine (head : SampleHead) (owned : Option Owned) (at : ℕ) (line : Line) : Type 0 where
+  pub first : line.first ≡ value_in head owned (place_of head at)
+  pub rise : line.rise ≡ (value_in head owned (place_of head (at + 1)) -ℤ value_in head owned (place_of head at))
 
-pub record IsPairInRange (pair : Pair) : Type 0 where
-  pub at : pair.at ≤ 2 ^ 31
-  pub first : FitsSigned w16 pair.first
-  pub second : FitsSigned w16 pair.second
-
--- ---- the line between them
-
--- a position lies on the line
-pub record IsLineAt (position : ℕ) (line : Line) : Type 0 where
-  pub at : line.pair.at ≡ position / 2 ^ 32
-  pub rise : line.rise ≡ (line.pair.second -ℤ line.pair.first)
-
+-- both its ends have 16 bits
 pub record IsLineInRange (line : Line) : Type 0 where
-  pub pair : IsPairInRange line.pair
-  pub end : line.end ≤ (line.pair.at + 1) * 2 ^ 32
+  pub first : FitsSigned w16 line.first
+  pub second : FitsSigned w16 (line.first +ℤ line.rise)
 
--- ---- the sums of both sides
+-- what is read past some lines
+abbrev pub flat : Line
+flat = record { first = pos 0; rise = pos 0 }
 
-abbrev pub silent_sides : Sides
-silent_sides = record { left = pos 0; right = pos 0 }
+-- so many lines, one after the other
+abbrev pub AreLines : SampleHead → Option Owned → ℕ → ℕ → List Line → Type 0
+AreLines head owned at many lines = (j : ℕ) → j < many → IsLine head owned (at + j) (get_or lines j flat)
 
--- sums of so many voices
-pub record IsLoud (voices : ℕ) (sides : Sides) : Type 0 where
-  pub left_low : (pos 0 -ℤ pos (8192 * voices)) ≤ℤ sides.left
-  pub left_high : sides.left ≤ℤ pos (8192 * voices)
-  pub right_low : (pos 0 -ℤ pos (8192 * voices)) ≤ℤ sides.right
-  pub right_high : sides.right ≤ℤ pos (8192 * voices)
+abbrev pub AreLinesInRange : ℕ → List Line → Type 0
+AreLinesInRange many lines = (j : ℕ) → j < many → IsLineInRange (get_or lines j flat)
 
-abbrev pub plus : Sides → Sides → Sides
-plus sides other = record { left = sides.left +ℤ other.left; right = sides.right +ℤ other.right }
+-- ---- values
 
--- what a value adds by the gains of both sides
-abbrev pub gained_sides : ℤ → ℕ → ℕ → Sides
-gained_sides value left right = record { left = gained value left; right = gained value right }
+-- so many values, from a position on, each a step on
+abbrev pub AreValues : SampleHead → Option Owned → ℕ → ℕ → ℕ → List ℤ → Type 0
+AreValues head owned position step many values = (k : ℕ) → k < many → get_or values k (pos 0) ≡ value_at head owned (position + k * step)
 
--- what a voice adds at frame i of a tick
-abbrev pub voice_sides : ℕ → Option Owned → Voice → Sides
-voice_sides i owned voice = record { left = left_of i owned voice; right = right_of i owned voice }
+abbrev pub AreInRange : ℕ → List ℤ → Type 0
+AreInRange many values = (k : ℕ) → k < many → FitsSigned w16 (get_or values k (pos 0))
 
--- and all voices, each with what is kept for its channel
-abbrev pub all_sides : ℕ → List (Option Owned) → List Voice → Sides
-all_sides i kept [] = silent_sides
-all_sides i kept (voice ∷ voices) = plus (voice_sides i (get_or kept voice.channel None) voice) (all_sides i kept voices)
+-- ---- sums
+
+-- a sum of so many voices
+pub record IsLoud (voices : ℕ) (sum : ℤ) : Type 0 where
+  pub low : (pos 0 -ℤ pos (8192 * voices)) ≤ℤ sum
+  pub high : sum ≤ℤ pos (8192 * voices)
+
+abbrev pub AreLoud : ℕ → ℕ → List ℤ → Type 0
+AreLoud voices many sums = (k : ℕ) → k < many → IsLoud voices (get_or sums k (pos 0))
+
+-- so many sums of both sides, from a frame of a tick on
+pub record AreSums (first : ℕ) (kept : List (Option Owned)) (voices : List Voice) (many : ℕ) (lefts rights : List ℤ) : Type 0 where
+  pub left : (k : ℕ) → k < many → get_or lefts k (pos 0) ≡ voices_sum (left_of (first + k)) kept voices
+  pub right : (k : ℕ) → k < many → get_or rights k (pos 0) ≡ voices_sum (right_of (first + k)) kept voices
 
 -- a frame is written: left, then right, each clipped once
-pub record IsFrame (sides : Sides) (frame : ℕ) (out : List ℤ) : Type 0 where
-  pub left : get_or out (2 * frame) (pos 0) ≡ clipped sides.left
-  pub right : get_or out (2 * frame + 1) (pos 0) ≡ clipped sides.right
+pub record IsFrame (left_sum right_sum : ℤ) (frame : ℕ) (out : List ℤ) : Type 0 where
+  pub left : get_or out (2 * frame) (pos 0) ≡ clipped left_sum
+  pub right : get_or out (2 * frame + 1) (pos 0) ≡ clipped right_sum
+
+-- at so many of the first frames of a tick stands the sound of its voices
+abbrev pub AreFrames : List (Option Owned) → List Voice → ℕ → List ℤ → Type 0
+AreFrames kept voices frames out =
+    (k : ℕ) → k < frames → IsFrame (voices_sum (left_of k) kept voices) (voices_sum (right_of k) kept voices) k out
+
+-- ---- what the calls of a view cost
+
+-- the frame at a place was asked for
+pub record Asked (place before after : ℕ) (kept kept_after : List ℕ) : Type 0 where
+  pub words : kept_after ≡ asked (word_of place) kept
+  pub cost : after ≤ before + frame_cost (word_of place) kept
+
+-- a voice without loop that passes at most one frame of its sample for each frame of output
+abbrev pub is_slow : Voice → Bool
+is_slow voice = (voice.head.loop_kind == 0) && nat_le voice.step (2 ^ 32)
+
+-- one cost for such voices, and another for all others
+abbrev pub cost_by : ℕ → ℕ → Voice → ℕ
+cost_by slow other voice = if is_slow voice then slow else other
+
+-- what mixing so many frames of a voice costs at most, its end too
+abbrev pub voice_cost : ℕ → Voice → ℕ
+voice_cost frames voice = cost_by (frames / 2 + 9) (1 + 2 * frame_bound * frames) voice
+
+-- without its end
+abbrev pub tick_cost : ℕ → Voice → ℕ
+tick_cost frames voice = cost_by (frames / 2 + 8) (2 * frame_bound * frames) voice
+
+-- and a block of at most 256 frames
+abbrev pub block_cost : ℕ → Voice → ℕ
+block_cost frames voice = cost_by (5 + (frames + 3) / 4) (2 * frame_bound * frames) voice
+
+-- going on from a frame to another one, where 256 words stand in a body
+abbrev pub way_cost : ℕ → ℕ → ℕ
+way_cost from to = 3 + (word_of to - word_of from) + 2 * (body_of (word_of to) - body_of (word_of from))
 
 -- ---- what mixing leaves
 

@@ -1,45 +1,61 @@
 //! The frames of a tick, block by block.
 
 ghost use Rattle.std.specs.Prelude.{◌≡◌, ◌≤◌, ◌<◌, ◌+◌, ◌*◌, ◌/◌, ◌%◌, ℕ, pos, All, length, get_or};
+ghost use Rattle.std.specs.List.{sum_by};
 ghost use Rattle.ft_types.specs.Work as work_of;
 ghost use Rattle.ft_replay.specs.Sound as sound;
 ghost use Rattle.ft_mix.specs.Mixing as mixing;
 
-use crate::sides::Sides;
+use crate::line::Line;
 use crate::voice::add_voice;
 use ft_types::{SampleHead, SongView, Voice};
 
-/// Makes all sums silent.
-fn silence(sums: &mut [Sides])
-    ensures silent { (k : ℕ) → k < length sums.old
-        → get_or sums.new k mixing.silent_sides ≡ mixing.silent_sides }
+/// Makes all sums of a side silent.
+fn silence(sums: &mut [i32])
+    ensures silent { (k : ℕ) → k < length sums.old → get_or sums.new k (pos 0) ≡ pos 0 }
     ensures many { length sums.new ≡ length sums.old }
 {
-    for sides in sums.iter_mut() {
-        *sides = Sides { left: 0, right: 0 };
+    for sum in sums.iter_mut() {
+        *sum = 0;
     }
 }
 
-/// Adds all voices to silent sums of the frames of their tick from `first` on.
-fn add_voices<V: SongView>(view: &mut V, voices: &[Voice], first: u32, sums: &mut [Sides])
+/// Adds all voices to silent sums of both sides, of the frames of their tick from `first` on.
+fn add_voices<V: SongView>(
+    view: &mut V,
+    voices: &[Voice],
+    first: u32,
+    lines: &mut [Line],
+    left: &mut [i32],
+    right: &mut [i32],
+)
     requires voices { All (mixing.IsMixed (V.keeps view.old) (length (V.holds view.old)))
         voices.now }
-    requires few { length voices.now ≤ 32 }
-    requires frames { first + length sums.old ≤ 3751 }
-    requires silent { (k : ℕ) → k < length sums.old
-        → get_or sums.old k mixing.silent_sides ≡ mixing.silent_sides }
-    ensures sums { mixing.Tells V.shows V.shown view.old view.new (λ shown.
-        (k : ℕ) → k < length sums.old → get_or sums.new k mixing.silent_sides
-        ≡ mixing.all_sides (first + k) shown.kept voices.now) }
-    ensures many { length sums.new ≡ length sums.old }
+    requires number { length voices.now ≤ 32 }
+    requires some { 1 ≤ length left.old }
+    requires few { length left.old ≤ 256 }
+    requires both { length right.old ≡ length left.old }
+    requires frames { first + length left.old ≤ 3751 }
+    requires room { length lines.old ≡ 512 }
+    requires left { (k : ℕ) → k < length left.old → get_or left.old k (pos 0) ≡ pos 0 }
+    requires right { (k : ℕ) → k < length left.old → get_or right.old k (pos 0) ≡ pos 0 }
+    ensures sums { mixing.Tells V.shows V.shown view.old view.new (λ shown. mixing.AreSums first
+        shown.kept voices.now (length left.old) left.new right.new) }
+    ensures many { length left.new ≡ length left.old }
+    ensures both { length right.new ≡ length right.old }
+    ensures room { length lines.new ≡ length lines.old }
     ensures holds { V.holds view.new ≡ V.holds view.old }
     ensures keeps { (c : ℕ) (h : SampleHead) → V.keeps view.old c h → V.keeps view.new c h }
     ensures work { (V.work view.old ≤ V.work view.new) × (V.work view.new
-        ≤ V.work view.old + length voices.now * (2 * work_of.frame_bound * length sums.old)) }
+        ≤ V.work view.old + length voices.now * (2 * work_of.frame_bound * length left.old)) }
+    ensures cost { V.work view.new
+        ≤ V.work view.old + sum_by (mixing.block_cost (length left.old)) voices.now }
     ensures same { V.same view.old view.new }
 {
+    let mut room = [0; 256];
+    let values = &mut room[..left.len()];
     for voice in voices {
-        add_voice(view, *voice, first, sums);
+        add_voice(view, *voice, first, lines, values, left, right);
     }
 }
 
@@ -51,60 +67,72 @@ fn clip(sum: i32) -> i16
 }
 
 /// Writes a frame at a place: left, then right, each clipped once.
-fn write_frame(out: &mut [i16], at: usize, sides: Sides)
+fn write_frame(out: &mut [i16], at: usize, left: i32, right: i32)
     requires { at + 1 < length out.old }
-    ensures left { get_or out.new at (pos 0) ≡ sound.clipped sides.left }
-    ensures right { get_or out.new (at + 1) (pos 0) ≡ sound.clipped sides.right }
+    ensures left { get_or out.new at (pos 0) ≡ sound.clipped left }
+    ensures right { get_or out.new (at + 1) (pos 0) ≡ sound.clipped right }
     ensures before { (j : ℕ) → j < at → get_or out.new j (pos 0) ≡ get_or out.old j (pos 0) }
     ensures many { length out.new ≡ length out.old }
 {
-    let left = clip(sides.left);
-    let right = clip(sides.right);
+    let left = clip(left);
+    let right = clip(right);
     out[at] = left;
     out[at + 1] = right;
 }
 
 /// Writes the sums of the frames from `first` on, left and right in turn.
-fn write(sums: &[Sides], first: usize, out: &mut [i16])
-    requires { 2 * (first + length sums.now) ≤ length out.old }
-    ensures frames { (k : ℕ) → k < length sums.now
-        → mixing.IsFrame (get_or sums.now k mixing.silent_sides) (first + k) out.new }
+fn write(left: &[i32], right: &[i32], first: usize, out: &mut [i16])
+    requires both { length right.now ≡ length left.now }
+    requires room { 2 * (first + length left.now) ≤ length out.old }
+    ensures frames { (k : ℕ) → k < length left.now → mixing.IsFrame
+        (get_or left.now k (pos 0)) (get_or right.now k (pos 0)) (first + k) out.new }
     ensures before { (j : ℕ) → j < 2 * first → get_or out.new j (pos 0) ≡ get_or out.old j (pos 0) }
     ensures many { length out.new ≡ length out.old }
 {
-    for k in 0..sums.len() {
-        write_frame(out, 2 * (first + k), sums[k]);
+    for k in 0..left.len() {
+        write_frame(out, 2 * (first + k), left[k], right[k]);
     }
 }
 
-/// Writes the frames of a tick from `first` on, as many as there are sums. What the lent sums hold
-/// afterwards isn't said.
+/// Writes the frames of a tick from `first` on, as many as there are sums of each side. What the
+/// lent lines and sums hold afterwards isn't said.
 fn fill_block<V: SongView>(
     view: &mut V,
     voices: &[Voice],
     first: u32,
-    sums: &mut [Sides],
+    lines: &mut [Line],
+    left: &mut [i32],
+    right: &mut [i32],
     out: &mut [i16],
 )
     requires voices { All (mixing.IsMixed (V.keeps view.old) (length (V.holds view.old)))
         voices.now }
-    requires few { length voices.now ≤ 32 }
-    requires frames { first + length sums.old ≤ 3751 }
-    requires room { 2 * (first + length sums.old) ≤ length out.old }
+    requires number { length voices.now ≤ 32 }
+    requires some { 1 ≤ length left.old }
+    requires few { length left.old ≤ 256 }
+    requires both { length right.old ≡ length left.old }
+    requires frames { first + length left.old ≤ 3751 }
+    requires lines { length lines.old ≡ 512 }
+    requires room { 2 * (first + length left.old) ≤ length out.old }
     ensures frames { mixing.Tells V.shows V.shown view.old view.new (λ shown.
-        (k : ℕ) → k < length sums.old
-        → mixing.IsFrame (mixing.all_sides (first + k) shown.kept voices.now) (first + k) out.new) }
+        (k : ℕ) → k < length left.old → mixing.IsFrame
+        (sound.voices_sum (sound.left_of (first + k)) shown.kept voices.now)
+        (sound.voices_sum (sound.right_of (first + k)) shown.kept voices.now) (first + k) out.new) }
     ensures before { (j : ℕ) → j < 2 * first → get_or out.new j (pos 0) ≡ get_or out.old j (pos 0) }
     ensures many { length out.new ≡ length out.old }
+    ensures lines { length lines.new ≡ length lines.old }
     ensures holds { V.holds view.new ≡ V.holds view.old }
     ensures keeps { (c : ℕ) (h : SampleHead) → V.keeps view.old c h → V.keeps view.new c h }
     ensures work { (V.work view.old ≤ V.work view.new) × (V.work view.new
-        ≤ V.work view.old + length voices.now * (2 * work_of.frame_bound * length sums.old)) }
+        ≤ V.work view.old + length voices.now * (2 * work_of.frame_bound * length left.old)) }
+    ensures cost { V.work view.new
+        ≤ V.work view.old + sum_by (mixing.block_cost (length left.old)) voices.now }
     ensures same { V.same view.old view.new }
 {
-    silence(sums);
-    add_voices(view, voices, first, sums);
-    write(sums, first as usize, out);
+    silence(left);
+    silence(right);
+    add_voices(view, voices, first, lines, left, right);
+    write(left, right, first as usize, out);
 }
 
 /// The frames of the block that begins at `first`, of a tick of so many.
@@ -132,13 +160,25 @@ pub fn fill<V: SongView>(view: &mut V, voices: &[Voice], out: &mut [i16])
     ensures keeps { (c : ℕ) (h : SampleHead) → V.keeps view.old c h → V.keeps view.new c h }
     ensures work { (V.work view.old ≤ V.work view.new) × (V.work view.new
         ≤ V.work view.old + length voices.now * (2 * work_of.frame_bound * (length out.old / 2))) }
+    ensures cost { V.work view.new ≤ V.work view.old
+        + sum_by (mixing.tick_cost (length out.old / 2)) voices.now }
     ensures same { V.same view.old view.new }
 {
     let frames = out.len() / 2;
-    let mut sums = [Sides { left: 0, right: 0 }; 256];
+    let mut lines = [Line { first: 0, rise: 0 }; 512];
+    let mut left = [0; 256];
+    let mut right = [0; 256];
     for block in 0..frames.div_ceil(256) {
         let first = 256 * block;
         let many = block_len(first, frames);
-        fill_block(view, voices, first as u32, &mut sums[..many], out);
+        fill_block(
+            view,
+            voices,
+            first as u32,
+            &mut lines,
+            &mut left[..many],
+            &mut right[..many],
+            out,
+        );
     }
 }

@@ -1,10 +1,8 @@
-//! What values add to the sums.
+//! What values add to the sums of a side.
 
-ghost use Rattle.std.specs.Prelude.{◌≡◌, ◌≤◌, ◌≤ℤ◌, ◌+ℤ◌, ◌-ℤ◌, ◌+◌, ℕ, pos, negsuc};
+ghost use Rattle.std.specs.Prelude.{◌≡◌, ◌≤◌, ◌<◌, ◌≤ℤ◌, ◌+ℤ◌, ◌-ℤ◌, ◌+◌, ℕ, pos, negsuc, length, get_or};
 ghost use Rattle.ft_replay.specs.Sound as sound;
 ghost use Rattle.ft_mix.specs.Mixing as mixing;
-
-use crate::sides::Sides;
 
 /// What a value, -32,768 to 32,767, adds to a side by its gain, of 65,536. It is rounded down; the
 /// product fits 32 bits.
@@ -25,25 +23,26 @@ fn added(sum: i32, value: i32, gain: u32) -> i32
     requires gain { gain ≤ 65536 }
     requires value_low { negsuc 32767 ≤ℤ value }
     requires value_high { value ≤ℤ pos 32767 }
-    requires sum_low { negsuc 999999 ≤ℤ sum }
-    requires sum_high { sum ≤ℤ pos 1000000 }
+    requires room { mixing.IsLoud 31 sum }
     ensures value { result ≡ (sum +ℤ sound.gained value gain) }
-    ensures low { (sum -ℤ pos 8192) ≤ℤ result }
-    ensures high { result ≤ℤ (sum +ℤ pos 8192) }
+    ensures loud { (n : ℕ) → mixing.IsLoud n sum → mixing.IsLoud (n + 1) result }
 {
     sum + gained(value, gain)
 }
 
-/// Adds a value, -32,768 to 32,767, to both sides by their gains, of 65,536.
-pub fn add(sides: &mut Sides, value: i32, left: u32, right: u32)
-    requires left { left ≤ 65536 }
-    requires right { right ≤ 65536 }
-    requires value_low { negsuc 32767 ≤ℤ value }
-    requires value_high { value ≤ℤ pos 32767 }
-    requires room { mixing.IsLoud 31 sides.old }
-    ensures value { sides.new ≡ mixing.plus sides.old (mixing.gained_sides value left right) }
-    ensures loud { (n : ℕ) → mixing.IsLoud n sides.old → mixing.IsLoud (n + 1) sides.new }
+/// Adds values, each of -32,768 to 32,767, to the sums of a side by its gain, of 65,536.
+pub fn add_values(values: &[i32], gain: u32, sums: &mut [i32])
+    requires many { length values.now ≡ length sums.old }
+    requires gain { gain ≤ 65536 }
+    requires range { mixing.AreInRange (length values.now) values.now }
+    requires room { mixing.AreLoud 31 (length sums.old) sums.old }
+    ensures sums { (k : ℕ) → k < length sums.old → get_or sums.new k (pos 0)
+        ≡ (get_or sums.old k (pos 0) +ℤ sound.gained (get_or values.now k (pos 0)) gain) }
+    ensures loud { (n : ℕ) → mixing.AreLoud n (length sums.old) sums.old
+        → mixing.AreLoud (n + 1) (length sums.old) sums.new }
+    ensures many { length sums.new ≡ length sums.old }
 {
-    sides.left = added(sides.left, value, left);
-    sides.right = added(sides.right, value, right);
+    for k in 0..sums.len() {
+        sums[k] = added(sums[k], values[k], gain);
+    }
 }

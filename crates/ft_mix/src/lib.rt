@@ -1,18 +1,19 @@
 //! The mixer: voices over any view become the frames of a tick.
 //!
-//! A voice adds the line between the two frames around its position, times a gain on each side;
-//! sums are clipped once. Frames are summed in blocks, on the mixer's own stack, and nothing
-//! allocates.
+//! A voice adds its value on the line between the two frames around its position, times a gain on
+//! each side; sums are clipped once. Frames are summed in blocks, on the mixer's own stack, and
+//! nothing allocates. In a block each voice goes in three steps, so that none asks much of a frame:
+//! the lines that it reaches are read, it walks on them, and its values are added to each side.
 #![tactic(auto)]
 
 mod block;
 mod gain;
 mod line;
+mod lines;
 mod mixer;
-mod pair;
 mod reach;
 mod settle;
-mod sides;
+mod values;
 mod voice;
 
 pub use mixer::mix;

@@ -1,50 +1,32 @@
-//! The line between two values, on which a voice moves.
+//! Lines between two values, on which a voice moves.
 
-ghost use Rattle.std.specs.Prelude.{◌≡◌, ◌^◌, ◌≤ℤ◌, ◌-ℤ◌, pos, negsuc, Option};
+ghost use Rattle.std.specs.Prelude.{◌≡◌, ◌/◌, ◌%◌, ◌^◌, ◌≤ℤ◌, ◌-ℤ◌, ℕ, pos, negsuc, Option, FitsSigned};
+ghost use Rattle.std.specs.Int.{w16};
 ghost use Rattle.ft_types.specs.declared.voice.SampleHead.{SampleHead};
 ghost use Rattle.ft_types.specs.Views.{Owned};
 ghost use Rattle.ft_replay.specs.Sound as sound;
 ghost use Rattle.ft_mix.specs.Mixing as mixing;
 
-use crate::pair::Pair;
-
-/// The straight line from the first value of a pair to the second.
+/// The straight line from the value of a frame to that of the frame that is reached next.
 #[derive(Clone, Copy)]
 pub struct Line {
-    /// The values at its ends.
-    pub pair: Pair,
-    /// The position at which the second value is reached; 0 where no frame was asked for yet.
-    pub end: u64,
-    /// How much higher the second value is than the first, -65,535 to 65,535.
+    /// The value at its beginning, -32,768 to 32,767.
+    pub first: i32,
+    /// How much higher the value at its end is, -65,535 to 65,535.
     pub rise: i64,
 }
 
-impl Line {
-    /// No frame was asked for yet.
-    pub fn unasked() -> Line
-        ensures unasked { result.pair.at ≡ 2 ^ 31 }
-        ensures end { result.end ≡ 0 }
-        ensures range { mixing.IsLineInRange result }
-    {
-        Line {
-            pair: Pair::unasked(),
-            end: 0,
-            rise: 0,
-        }
-    }
-}
-
-/// The line of a pair.
-pub fn line_of(pair: Pair) -> Line
-    requires range { mixing.IsPairInRange pair }
-    ensures pair { result.pair ≡ pair }
-    ensures rise { result.rise ≡ (pair.second -ℤ pair.first) }
+/// The line from a value to another one, each of -32,768 to 32,767.
+pub fn line_between(first: i32, second: i32) -> Line
+    requires first { FitsSigned w16 first }
+    requires second { FitsSigned w16 second }
+    ensures first { result.first ≡ first }
+    ensures rise { result.rise ≡ (second -ℤ first) }
     ensures range { mixing.IsLineInRange result }
 {
     Line {
-        pair,
-        end: (u64::from(pair.at) + 1) * (1 << 32),
-        rise: i64::from(pair.second - pair.first),
+        first,
+        rise: i64::from(second - first),
     }
 }
 
@@ -58,14 +40,14 @@ fn part(rise: i64, fraction: u32) -> i32
     ((rise * i64::from(fraction)) >> 32) as i32
 }
 
-/// The value of a line at a position.
-pub fn value_on(line: Line, position: u64) -> i32
-    requires range { mixing.IsPairInRange line.pair }
-    requires line { mixing.IsLineAt position line }
-    ensures value { (head : SampleHead) (owned : Option Owned) → mixing.IsPair head owned line.pair
+/// The value of a line at a fraction of 2^32.
+pub fn value_on(line: Line, fraction: u32) -> i32
+    requires range { mixing.IsLineInRange line }
+    ensures value { (head : SampleHead) (owned : Option Owned) (position : ℕ)
+        → mixing.IsLine head owned (position / 2 ^ 32) line → fraction ≡ position % 2 ^ 32
         → result ≡ sound.value_at head owned position }
     ensures low { negsuc 32767 ≤ℤ result }
     ensures high { result ≤ℤ pos 32767 }
 {
-    line.pair.first + part(line.rise, (position % (1 << 32)) as u32)
+    line.first + part(line.rise, fraction)
 }

@@ -1,6 +1,7 @@
 //! Mixes the voices of a tick.
 
 ghost use Rattle.std.specs.Prelude.{◌≡◌, ◌≢◌, ◌≤◌, ◌<◌, ◌+◌, ◌*◌, ◌/◌, ◌%◌, ℕ, All, length};
+ghost use Rattle.std.specs.List.{sum_by};
 ghost use Rattle.ft_types.specs.Work as work_of;
 ghost use Rattle.ft_replay.specs.Range.{IsVoiceInRange};
 ghost use Rattle.ft_replay.specs.Sound as sound;
@@ -40,6 +41,8 @@ pub fn mix<V: SongView>(view: &mut V, voices: &mut ArrayVec<Voice, 32>, out: &mu
     ensures many { length out.new ≡ length out.old }
     ensures work { (V.work view.old ≤ V.work view.new) × (V.work view.new ≤ V.work view.old
         + length voices.old.items * (1 + 2 * work_of.frame_bound * (length out.old / 2))) }
+    ensures cost { V.work view.new ≤ V.work view.old
+        + sum_by (mixing.voice_cost (length out.old / 2)) voices.old.items }
     ensures same { V.same view.old view.new }
 {
     let frames = (out.len() / 2) as u32;

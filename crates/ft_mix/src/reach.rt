@@ -1,21 +1,69 @@
 //! The places of a sample that are reached, and their values.
 
-ghost use Rattle.std.specs.Prelude.{◌≡◌, ◌≤◌, ◌<◌, ◌+◌, ◌≤ℤ◌, ℕ, pos, negsuc, None, IfSome, FitsSigned, length, get_or};
-ghost use Rattle.ft_types.specs.Valid.{width_of};
+ghost use Rattle.std.specs.Prelude.{◌≡◌, ◌≤◌, ◌<◌, ◌+◌, ◌*◌, ◌≤ℤ◌, ℕ, pos, negsuc, [], None, Some, IfSome, FitsSigned, length, get_or};
+ghost use Rattle.ft_types.specs.Valid.{width_of, IsValidHead};
 ghost use Rattle.ft_types.specs.Work as work_of;
 ghost use Rattle.ft_replay.specs.Sound as sound;
 ghost use Rattle.ft_mix.specs.Mixing as mixing;
 
 use ft_types::{SampleHead, SongView};
 
-/// The place of the frame that a voice reaches at `i`, counted from its sample's first frame. None
-/// exactly past the end of a sample without loop.
+/// The steps of a turn of a loop, at least 1, after which it is at its first frame again.
+pub fn turn(head: &SampleHead) -> u32
+    requires head { IsValidHead head.now }
+    requires looped { 1 ≤ head.now.loop_kind }
+    ensures value { result ≡ sound.turn_of head.now }
+    ensures some { 1 ≤ result }
+    ensures bound { result ≤ 2 * head.now.loop_len }
+{
+    if head.loop_kind == 2 {
+        return (2 * head.loop_len - 2).max(1);
+    }
+    head.loop_len
+}
+
+/// The frame of a loop, from its first, so many steps into a turn.
+fn reflected(head: &SampleHead, steps: u32) -> u32
+    requires head { IsValidHead head.now }
+    requires looped { 1 ≤ head.now.loop_kind }
+    requires steps { steps < sound.turn_of head.now }
+    ensures value { result ≡ sound.reflected head.now steps }
+    ensures within { result < head.now.loop_len }
+{
+    if steps < head.loop_len {
+        return steps;
+    }
+    turn(head) - steps
+}
+
+/// Past the last frame of a loop, or of a sample without one.
+pub fn end(head: &SampleHead) -> u32
+    requires { IsValidHead head.now }
+    ensures value { result ≡ sound.end_of head.now }
+    ensures within { result ≤ head.now.frames }
+{
+    if head.loop_kind == 0 {
+        return head.frames;
+    }
+    head.loop_start + head.loop_len
+}
+
+/// The place of the frame that a voice reaches at `i`, counted from the sample's first frame; `i`
+/// counts on through the turns of a loop. None exactly past the end of a sample without loop.
 #[tactic(auto, unfolding(ft_replay::specs::Sound::place_of))]
 pub fn place(head: &SampleHead, i: u32) -> Option<u32>
+    requires { IsValidHead head.now }
     ensures value { result ≡ sound.place_of head.now i }
     ensures within { IfSome result (λ place. place < head.now.frames) }
 {
-    if i < head.frames { Some(i) } else { None }
+    if head.loop_kind == 0 {
+        return if i < head.frames { Some(i) } else { None };
+    }
+    if i < head.loop_start + head.loop_len {
+        return Some(i);
+    }
+    let steps = (i - head.loop_start) % turn(head);
+    Some(head.loop_start + reflected(head, steps))
 }
 
 /// The value of a raw frame: one of 8 bits counts 256 times.
@@ -32,8 +80,12 @@ fn loudness(raw: i16, wide: bool) -> i32
     }
 }
 
-/// The value of the frame that a channel's voice reaches at `i`; past the end it is 0.
-pub fn value_of<V: SongView>(view: &mut V, channel: u8, head: &SampleHead, i: u32) -> i32
+/// The value of the frame that a channel's voice reaches at `i`; past the end of a sample without
+/// loop it is 0.
+#[cold]
+#[inline(never)]
+fn value_past<V: SongView>(view: &mut V, channel: u8, head: &SampleHead, i: u32) -> i32
+    requires head { IsValidHead head.now }
     requires channel { channel < length (V.holds view.old) }
     requires kept { V.keeps view.old channel head.now }
     ensures value { mixing.Tells V.shows V.shown view.old view.new (λ shown. result
@@ -44,10 +96,41 @@ pub fn value_of<V: SongView>(view: &mut V, channel: u8, head: &SampleHead, i: u3
     ensures keeps { (c : ℕ) (h : SampleHead) → V.keeps view.old c h → V.keeps view.new c h }
     ensures work { (V.work view.old ≤ V.work view.new)
         × (V.work view.new ≤ V.work view.old + work_of.frame_bound) }
+    ensures asks { (place : ℕ) → sound.place_of head.now i ≡ Some place → mixing.Asked place
+        (V.work view.old) (V.work view.new)
+        (get_or (V.words view.old) channel []) (get_or (V.words view.new) channel []) }
+    ensures rests { sound.place_of head.now i ≡ None → V.work view.new ≤ V.work view.old }
     ensures same { V.same view.old view.new }
 {
     let Some(place) = place(head, i) else {
         return 0;
     };
     loudness(view.frame(channel, place), head.wide)
+}
+
+/// The same, where the end of the loop or of the sample is at hand, so that a frame before it is
+/// asked for at once.
+pub fn value_of<V: SongView>(view: &mut V, channel: u8, head: &SampleHead, end: u32, i: u32) -> i32
+    requires head { IsValidHead head.now }
+    requires end { end ≡ sound.end_of head.now }
+    requires channel { channel < length (V.holds view.old) }
+    requires kept { V.keeps view.old channel head.now }
+    ensures value { mixing.Tells V.shows V.shown view.old view.new (λ shown. result
+        ≡ sound.value_in head.now (get_or shown.kept channel None) (sound.place_of head.now i)) }
+    ensures low { negsuc 32767 ≤ℤ result }
+    ensures high { result ≤ℤ pos 32767 }
+    ensures holds { V.holds view.new ≡ V.holds view.old }
+    ensures keeps { (c : ℕ) (h : SampleHead) → V.keeps view.old c h → V.keeps view.new c h }
+    ensures work { (V.work view.old ≤ V.work view.new)
+        × (V.work view.new ≤ V.work view.old + work_of.frame_bound) }
+    ensures asks { (place : ℕ) → sound.place_of head.now i ≡ Some place → mixing.Asked place
+        (V.work view.old) (V.work view.new)
+        (get_or (V.words view.old) channel []) (get_or (V.words view.new) channel []) }
+    ensures rests { sound.place_of head.now i ≡ None → V.work view.new ≤ V.work view.old }
+    ensures same { V.same view.old view.new }
+{
+    if i < end {
+        return loudness(view.frame(channel, i), head.wide);
+    }
+    value_past(view, channel, head, i)
 }

@@ -1,20 +1,41 @@
 //! Moves voices on after a tick, and ends those that are over.
 
-ghost use Rattle.std.specs.Prelude.{◌≡◌, ◌≢◌, ◌≤◌, ◌<◌, ◌+◌, ◌++◌, [], ◌∷◌, ℕ, All, length};
+ghost use Rattle.std.specs.Prelude.{◌≡◌, ◌≢◌, ◌≤◌, ◌<◌, ◌+◌, ◌++◌, ◌^◌, [], ◌∷◌, ℕ, All, length};
+ghost use Rattle.ft_types.specs.Valid.{IsValidHead};
 ghost use Rattle.ft_replay.specs.Range.{IsVoiceInRange};
 ghost use Rattle.ft_replay.specs.Sound as sound;
 ghost use Rattle.ft_mix.specs.Mixing as mixing;
 
+use crate::reach::turn;
 use arrayvec::ArrayVec;
 use ft_types::{SampleHead, SongView, Voice};
 
-/// The position of a voice after so many frames.
-fn position_after(voice: Voice, frames: u32) -> u64
+/// Where a voice has come to after so many frames.
+fn reached(voice: Voice, frames: u32) -> u64
     requires range { IsVoiceInRange voice }
     requires few { frames ≤ 3751 }
-    ensures { result ≡ (sound.voice_after frames voice).pos }
+    ensures value { result ≡ sound.reached frames voice }
+    ensures bound { result < 2 ^ 56 }
 {
     voice.pos + u64::from(frames) * voice.step
+}
+
+/// A position past the end of a loop, brought back by whole turns.
+#[tactic(auto, unfolding(ft_replay::specs::Sound::brought_back))]
+fn brought_back(head: &SampleHead, position: u64) -> u64
+    requires head { IsValidHead head.now }
+    requires position { position < 2 ^ 56 }
+    ensures { result ≡ sound.brought_back head.now position }
+{
+    if head.loop_kind == 0 {
+        return position;
+    }
+    let frame = (position >> 32) as u32;
+    if frame < head.loop_start + head.loop_len {
+        return position;
+    }
+    let back = head.loop_start + (frame - head.loop_start) % turn(head);
+    u64::from(back) * (1 << 32) + position % (1 << 32)
 }
 
 /// Whether a voice has ended after so many frames.
@@ -23,7 +44,10 @@ fn is_ended(voice: Voice, frames: u32) -> bool
     requires few { frames ≤ 3751 }
     ensures { result ≡ sound.is_ended frames voice }
 {
-    voice.last || position_after(voice, frames) >> 32 >= u64::from(voice.head.frames)
+    if voice.last {
+        return true;
+    }
+    voice.head.loop_kind == 0 && reached(voice, frames) >> 32 >= u64::from(voice.head.frames)
 }
 
 /// Moves a voice on to those that go on, or ends it: then its channel keeps nothing any more.
@@ -45,7 +69,7 @@ fn settle_voice<V: SongView>(view: &mut V, voice: Voice, frames: u32, on: &mut A
         view.stop(voice.channel);
         return;
     }
-    let pos = position_after(voice, frames);
+    let pos = brought_back(&voice.head, reached(voice, frames));
     on.push(Voice { pos, ..voice });
 }
 

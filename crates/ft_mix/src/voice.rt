@@ -1,66 +1,57 @@
 //! The frames of a voice.
 
-ghost use Rattle.std.specs.Prelude.{◌≡◌, ◌≤◌, ◌<◌, ◌+◌, ◌*◌, ◌/◌, ◌^◌, ℕ, None, All, length, get_or};
+ghost use Rattle.std.specs.Prelude.{◌≡◌, ◌≤◌, ◌<◌, ◌+◌, ◌*◌, ◌/◌, ◌+ℤ◌, ℕ, pos, None, length, get_or};
 ghost use Rattle.ft_types.specs.Work as work_of;
+ghost use Rattle.ft_replay.specs.Sound as sound;
 ghost use Rattle.ft_mix.specs.Mixing as mixing;
 
-use crate::gain::add;
-use crate::line::{Line, line_of, value_on};
-use crate::pair::pair_from;
-use crate::sides::Sides;
+use crate::gain::add_values;
+use crate::line::Line;
+use crate::values::read_values;
 use ft_types::{SampleHead, SongView, Voice};
 
-/// The line on which a channel's voice stands at a position: the one at hand up to its end, and
-/// then the next, for which the view is asked.
-fn line_at<V: SongView>(view: &mut V, voice: Voice, line: Line, position: u64) -> Line
-    requires channel { voice.channel < length (V.holds view.old) }
-    requires kept { V.keeps view.old voice.channel voice.head }
-    requires at { position / 2 ^ 32 < 2 ^ 24 }
-    requires line { position < line.end → mixing.IsLineAt position line }
-    requires range { mixing.IsLineInRange line }
-    requires asked { (w : V.World) → V.shows view.old w → line.pair.at < 2 ^ 31
-        → mixing.IsPair voice.head (get_or (V.shown view.old w).kept voice.channel None) line.pair }
-    ensures values { mixing.Tells V.shows V.shown view.old view.new
-        (λ shown. mixing.IsPair voice.head (get_or shown.kept voice.channel None) result.pair) }
-    ensures line { mixing.IsLineAt position result }
-    ensures range { mixing.IsLineInRange result }
-    ensures holds { V.holds view.new ≡ V.holds view.old }
-    ensures keeps { (c : ℕ) (h : SampleHead) → V.keeps view.old c h → V.keeps view.new c h }
-    ensures work { (V.work view.old ≤ V.work view.new)
-        × (V.work view.new ≤ V.work view.old + 2 * work_of.frame_bound) }
-    ensures same { V.same view.old view.new }
-{
-    if position < line.end {
-        return line;
-    }
-    let at = (position >> 32) as u32;
-    line_of(pair_from(view, voice.channel, &voice.head, line.pair, at))
-}
-
-/// Adds what a voice adds to the frames of its tick from `first` on.
-pub fn add_voice<V: SongView>(view: &mut V, voice: Voice, first: u32, sums: &mut [Sides])
+/// Adds what a voice adds to both sides of the frames of its tick from `first` on. What the lent
+/// lines and values hold afterwards isn't said.
+pub fn add_voice<V: SongView>(
+    view: &mut V,
+    voice: Voice,
+    first: u32,
+    lines: &mut [Line],
+    values: &mut [i32],
+    left: &mut [i32],
+    right: &mut [i32],
+)
     requires voice { mixing.IsMixed (V.keeps view.old) (length (V.holds view.old)) voice }
-    requires frames { first + length sums.old ≤ 3751 }
-    requires room { All (mixing.IsLoud 31) sums.old }
+    requires some { 1 ≤ length left.old }
+    requires few { length left.old ≤ 256 }
+    requires both { length right.old ≡ length left.old }
+    requires values { length values.old ≡ length left.old }
+    requires frames { first + length left.old ≤ 3751 }
+    requires room { length lines.old ≡ 512 }
+    requires left { mixing.AreLoud 31 (length left.old) left.old }
+    requires right { mixing.AreLoud 31 (length left.old) right.old }
     ensures sums { mixing.Tells V.shows V.shown view.old view.new (λ shown.
-        (k : ℕ) → k < length sums.old → get_or sums.new k mixing.silent_sides
-        ≡ mixing.plus (get_or sums.old k mixing.silent_sides)
-        (mixing.voice_sides (first + k) (get_or shown.kept voice.channel None) voice)) }
-    ensures loud { (n k : ℕ) → k < length sums.old
-        → mixing.IsLoud n (get_or sums.old k mixing.silent_sides)
-        → mixing.IsLoud (n + 1) (get_or sums.new k mixing.silent_sides) }
-    ensures many { length sums.new ≡ length sums.old }
+        (k : ℕ) → k < length left.old
+        → (get_or left.new k (pos 0) ≡ (get_or left.old k (pos 0)
+        +ℤ sound.left_of (first + k) (get_or shown.kept voice.channel None) voice))
+        × (get_or right.new k (pos 0) ≡ (get_or right.old k (pos 0)
+        +ℤ sound.right_of (first + k) (get_or shown.kept voice.channel None) voice))) }
+    ensures left { (n : ℕ) → mixing.AreLoud n (length left.old) left.old
+        → mixing.AreLoud (n + 1) (length left.old) left.new }
+    ensures right { (n : ℕ) → mixing.AreLoud n (length left.old) right.old
+        → mixing.AreLoud (n + 1) (length left.old) right.new }
+    ensures many { length left.new ≡ length left.old }
+    ensures both { length right.new ≡ length right.old }
+    ensures values { length values.new ≡ length values.old }
+    ensures room { length lines.new ≡ length lines.old }
     ensures holds { V.holds view.new ≡ V.holds view.old }
     ensures keeps { (c : ℕ) (h : SampleHead) → V.keeps view.old c h → V.keeps view.new c h }
-    ensures work { (V.work view.old ≤ V.work view.new)
-        × (V.work view.new ≤ V.work view.old + 2 * work_of.frame_bound * length sums.old) }
+    ensures work { (V.work view.old ≤ V.work view.new) × (V.work view.new
+        ≤ V.work view.old + 2 * work_of.frame_bound * length left.old) }
+    ensures cost { V.work view.new ≤ V.work view.old + mixing.block_cost (length left.old) voice }
     ensures same { V.same view.old view.new }
 {
-    let mut position = voice.pos + u64::from(first) * voice.step;
-    let mut line = Line::unasked();
-    for sides in sums.iter_mut() {
-        line = line_at(view, voice, line, position);
-        add(sides, value_on(line, position), voice.left, voice.right);
-        position += voice.step;
-    }
+    read_values(view, voice, first, lines, values);
+    add_values(values, voice.left, left);
+    add_values(values, voice.right, right);
 }

@@ -1,13 +1,14 @@
 -- Worked rows of the definitions, by computation.
-use Rattle.std.proofs.Common.{◌≡◌, ℕ, zero, suc, ◌*◌, ◌^◌, pos, negsuc, ◌*ℤ◌, None, Some, false, List, [], ◌∷◌, refl}
+use Rattle.std.proofs.Common.{◌≡◌, ℕ, zero, suc, ◌+◌, ◌*◌, ◌^◌, pos, negsuc, ◌*ℤ◌, Option, None, Some, false, List, [], ◌∷◌, ◌++◌, refl}
 use Rattle.std.specs.Prelude.{replicate}
 use Rattle.ft_types.specs.declared.sample.Sample.{Sample}
+use Rattle.ft_types.specs.declared.voice.SampleHead.{SampleHead}
 use Rattle.ft_types.specs.Views.{head_of}
 use Rattle.ft_replay.specs.declared.state.Place.{Place}
 use Rattle.ft_replay.specs.State.{Lane, first_channel, first_control}
 use Rattle.ft_replay.specs.Row.{new_voice}
 use Rattle.ft_replay.specs.Hearing.{gain_of}
-use Rattle.ft_replay.specs.Sound.{sound_of, frame_at, value_at, place_of, between, part, gained, clipped, lane_after}
+use Rattle.ft_replay.specs.Sound.{sound_of, frame_at, value_at, place_of, between, part, gained, clipped, brought_back, lane_after}
 use Rattle.ft_replay.specs.Replay.{cut_last}
 use Rattle.ft_replay.specs.Time.{tick_frames, with_carry}
 use Rattle.ft_replay.specs.declared.state.Control.{Control}
@@ -55,6 +56,60 @@ two_and_silence = refl
 ended : (lane_after 4 (sounding (2 ^ 32))).channel.voice ≡ None
 unfolding sounding four_frames lane_after
 ended = refl
+
+-- ---- loops
+
+looped : ℕ → ℕ → ℕ → SampleHead
+looped kind start len = record {
+  frames = start + len;
+  wide = false;
+  loop_kind = kind;
+  loop_start = start;
+  loop_len = len;
+  volume = 64;
+  panning = 128;
+  finetune = pos 0;
+  relative = pos 0;
+}
+
+-- the places that are reached first
+places : ℕ → SampleHead → List (Option ℕ)
+places zero head = []
+places (suc many) head = places many head ++ place_of head many ∷ []
+
+some_of : List ℕ → List (Option ℕ)
+some_of [] = []
+some_of (place ∷ rest) = Some place ∷ some_of rest
+
+-- a ping-pong loop of one frame stays on it, and others play their first and last frame once in a turn
+ping_pong_of_one : places 7 (looped 2 0 1) ≡ some_of (0 ∷ 0 ∷ 0 ∷ 0 ∷ 0 ∷ 0 ∷ 0 ∷ [])
+unfolding looped places some_of place_of
+ping_pong_of_one = refl
+
+ping_pong_of_two : places 7 (looped 2 0 2) ≡ some_of (0 ∷ 1 ∷ 0 ∷ 1 ∷ 0 ∷ 1 ∷ 0 ∷ [])
+unfolding looped places some_of place_of
+ping_pong_of_two = refl
+
+ping_pong_of_three : places 7 (looped 2 0 3) ≡ some_of (0 ∷ 1 ∷ 2 ∷ 1 ∷ 0 ∷ 1 ∷ 2 ∷ [])
+unfolding looped places some_of place_of
+ping_pong_of_three = refl
+
+forward_past_its_start : places 9 (looped 1 2 3) ≡ some_of (0 ∷ 1 ∷ 2 ∷ 3 ∷ 4 ∷ 2 ∷ 3 ∷ 4 ∷ 2 ∷ [])
+unfolding looped places some_of place_of
+forward_past_its_start = refl
+
+ping_pong_past_its_start : places 9 (looped 2 2 3) ≡ some_of (0 ∷ 1 ∷ 2 ∷ 3 ∷ 4 ∷ 3 ∷ 2 ∷ 3 ∷ 4 ∷ [])
+unfolding looped places some_of place_of
+ping_pong_past_its_start = refl
+
+-- after a tick the turns that are over are dropped: one of 3 frames forward, one of 4 steps there and back
+forward_back : brought_back (looped 1 2 3) (6 * 2 ^ 32 + 5) ≡ 3 * 2 ^ 32 + 5
+unfolding looped brought_back
+forward_back = refl
+
+on_its_way_back : brought_back (looped 2 2 3) (9 * 2 ^ 32 + 5) ≡ 5 * 2 ^ 32 + 5
+unfolding looped brought_back
+on_its_way_back = refl
 
 -- ---- how long ticks are
 

@@ -1,5 +1,5 @@
 -- The sound of a tick, by positions in closed form.
-use Rattle.std.specs.Prelude.{ℕ, zero, suc, ◌+◌, ◌*◌, ◌/◌, ◌%◌, ◌^◌, ℤ, pos, negsuc, ◌+ℤ◌, ◌-ℤ◌, ◌*ℤ◌, ◌||◌, not, Bool, false, List, [], ◌∷◌, ◌++◌, Option, Some, None, get_or, set, nat_lt, if◌then◌else◌}
+use Rattle.std.specs.Prelude.{ℕ, zero, suc, ◌+◌, ◌*◌, ◌/◌, ◌-◌, ◌%◌, ◌^◌, ◌==◌, max, ℤ, pos, negsuc, ◌+ℤ◌, ◌-ℤ◌, ◌*ℤ◌, ◌||◌, ◌&&◌, not, Bool, false, List, [], ◌∷◌, ◌++◌, Option, Some, None, get_or, set, nat_lt, if◌then◌else◌}
 use Rattle.std.specs.Int.{int_min, int_max}
 use Rattle.ft_types.specs.declared.voice.SampleHead.{SampleHead}
 use Rattle.ft_types.specs.declared.voice.Voice.{Voice}
@@ -10,9 +10,26 @@ use Rattle.ft_replay.specs.Row.{without_voice}
 
 -- ---- the value of a voice
 
--- the place of a frame that is reached; none past the end of a sample without loop
+-- the steps of a turn of a loop, after which it is at its first frame again: a ping-pong loop goes on to its last frame and back,
+-- and one of a single frame stays on it
+abbrev pub turn_of : SampleHead → ℕ
+turn_of head = if head.loop_kind == 2 then max 1 (2 * head.loop_len - 2) else head.loop_len
+
+-- the frame of a loop, from its first, so many steps into a turn: a ping-pong loop is reflected at its last frame
+abbrev pub reflected : SampleHead → ℕ → ℕ
+reflected head steps = if nat_lt steps head.loop_len then steps else turn_of head - steps
+
+-- past the last frame of a loop, or of a sample without one
+abbrev pub end_of : SampleHead → ℕ
+end_of head = if head.loop_kind == 0 then head.frames else head.loop_start + head.loop_len
+
+-- the place of a frame that is reached, which counts on without ever turning: up to the end of the loop, or of a sample without
+-- one, it is that place; past the end of a loop it is found by whole turns, and past the end of a sample there is none
 unfoldable pub place_of : SampleHead → ℕ → Option ℕ
-place_of head frame = if nat_lt frame head.frames then Some frame else None
+place_of head frame =
+    if nat_lt frame (end_of head) then Some frame
+    else (if head.loop_kind == 0 then None
+    else Some (head.loop_start + reflected head ((frame - head.loop_start) % turn_of head)))
 
 -- a frame of 8 bits counts 256 times
 abbrev pub loudness : Bool → ℤ → ℤ
@@ -91,12 +108,22 @@ sound_of_voices kept voices (suc frames) = sound_of_voices kept voices frames ++
 
 -- ---- what a tick leaves of a voice
 
--- a voice ends after its last tick, and where its position has passed all its frames
+-- where a voice has come to after so many frames
+abbrev pub reached : ℕ → Voice → ℕ
+reached frames voice = voice.pos + frames * voice.step
+
+-- a voice ends after its last tick, and without a loop where its position has passed all its frames
 abbrev pub is_ended : ℕ → Voice → Bool
-is_ended frames voice = voice.last || not (nat_lt ((voice.pos + frames * voice.step) / 2 ^ 32) voice.head.frames)
+is_ended frames voice = voice.last || ((voice.head.loop_kind == 0) && not (nat_lt (reached frames voice / 2 ^ 32) voice.head.frames))
+
+-- a position past the end of a loop is brought back by whole turns; in a ping-pong loop it may still be on its way back
+unfoldable pub brought_back : SampleHead → ℕ → ℕ
+brought_back head position =
+    if (head.loop_kind == 0) || nat_lt (position / 2 ^ 32) (head.loop_start + head.loop_len) then position
+    else (head.loop_start + (position / 2 ^ 32 - head.loop_start) % turn_of head) * 2 ^ 32 + position % 2 ^ 32
 
 abbrev pub voice_after : ℕ → Voice → Voice
-voice_after frames voice = record voice { pos = voice.pos + frames * voice.step }
+voice_after frames voice = record voice { pos = brought_back voice.head (reached frames voice) }
 
 abbrev pub lane_after_by : ℕ → Option Voice → Lane → Lane
 lane_after_by frames None lane = lane

@@ -1,9 +1,11 @@
-use Rattle.std.proofs.Common.{ℕ, All, List, Bool, length, ◌≡◌, ◌/◌, ◌∙◌, ap, subst, sym}
+use Rattle.std.proofs.Common.{ℕ, All, List, Bool, length, ◌≡◌, ◌≤◌, ◌+◌, ◌*◌, ◌/◌, ◌∙◌, arith, ap, subst, sym}
+use Rattle.std.specs.List.{sum_by}
 use Rattle.ft_types.specs.declared.voice.Voice.{Voice}
 use Rattle.ft_replay.specs.Range.{IsVoiceInRange}
 use Rattle.ft_replay.specs.Sound.{voices_after}
 use Rattle.ft_replay.specs.Standing.{IsAscending}
-use Rattle.ft_mix.specs.Mixing.{IsMixed, SoundsOn}
+use Rattle.ft_mix.specs.Mixing.{IsMixed, SoundsOn, tick_cost}
+use Rattle.ft_mix.proofs.Costs.{costs_more, ones}
 use Rattle.ft_mix.proofs.After.{voices_in_range, as_many, ascending_after, mixed_after}
 use Rattle.ft_mix.proofs.mixer.mix.Goals as goal
 use Rattle.ft_mix.proofs.mixer.mix.Given as over
@@ -34,3 +36,13 @@ returns-clause-mixed g c = λ low high p.
 
 pub returns-clause-wide : goal.returns-clause-wide
 returns-clause-wide g c = held g c
+
+pub returns-clause-cost : goal.returns-clause-cost
+returns-clause-cost g c =
+    let frames = length c.args.out.now / 2 in
+    let voices = c.args.voices.now.items in
+    let filled = subst (λ (l : List Voice). g.V.SongView.work c.fill.new.view ≤ g.V.SongView.work c.args.view.now + sum_by (tick_cost frames) l) c.as_slice.ensures.value c.fill.ensures.cost in
+    let settled = subst (λ (l : List Voice). g.V.SongView.work c.settle-on.new.view ≤ g.V.SongView.work c.fill.new.view + length l) c.as_slice-2.ensures.value c.settle-on.ensures.work.1 in
+    let sums = costs_more (frames / 2 + 8) (6 * frames) 1 1 (frames / 2 + 9) (1 + 6 * frames) voices (omega arith) (omega arith) in
+    let each = ones voices in
+    omega (arith, filled, settled)
