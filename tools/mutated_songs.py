@@ -7,7 +7,7 @@ Half of all are damaged: cut short, or with changed bytes or fields."""
 import pathlib
 import sys
 
-from varied_songs import Draws
+from drawn_songs import Draws
 
 # what plain songs don't have
 ODDITIES = ["periods", "key off", "volume", "effect", "parameter", "samples", "wide", "loop",

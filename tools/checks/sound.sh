@@ -1,6 +1,6 @@
 #!/usr/bin/env bash
 # The program against a slow reading of the sound's rules that was written apart from it: the
-# examples, and twelve varied songs, byte for byte.
+# examples, and twelve songs drawn from numbers, byte for byte.
 set -u
 here=$(cd "$(dirname "$0")/../.." && pwd)
 work=$(mktemp -d)
@@ -20,9 +20,9 @@ for song in silence first scale; do
     compare "$work/songs/$song.xm" 44100 2
 done
 compare "$work/songs/first.xm" 8363 1
-python3 "$here/tools/varied_songs.py" "$work" 12
+python3 "$here/tools/drawn_songs.py" "$work" 12 plain
 rate=8000
-for song in "$work"/varied*.xm; do
+for song in "$work"/plain*.xm; do
     compare "$song" "$rate" 2
     rate=$((rate + 3557))
     [ "$rate" -gt 48000 ] && rate=8000
