@@ -41,7 +41,9 @@ fn main(rt: HostRuntime) -> Result<()> {
         return Err(anyhow!("a song, a rate and a number of ticks"));
     };
     let bytes = fs::read(&rt, path)?;
-    let song = read_xm(rt.alloc(), &bytes)?;
+    let Ok(song) = read_xm(rt.alloc(), &bytes) else {
+        return Err(anyhow!("the file is no song"));
+    };
     let rate: u32 = rate.as_str().parse()?;
     if rate < 8000 || rate > 48_000 {
         return Err(anyhow!("the rate is 8000 to 48000"));
