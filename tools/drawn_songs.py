@@ -46,7 +46,9 @@ def drawn(number, kind):
     plain = kind == "plain"
     channels = draws.of([1, 2, 3, 4, 4, 6, 8, 32])
     instruments = [instrument(draws, kind) for _ in range(1 + draws.below(4))]
-    patterns = [pattern(draws, channels, len(instruments), plain) for _ in range(1 + draws.below(4))]
+    # a song has some of the effects only, so that they meet
+    effects = [] if plain else [draws.of(EFFECTS) for _ in range(3 + draws.below(12))]
+    patterns = [pattern(draws, channels, len(instruments), effects) for _ in range(1 + draws.below(4))]
     # some orders name a pattern that isn't stored
     orders = [0] + [draws.below(len(patterns) + draws.below(2)) for _ in range(draws.below(6))]
     tempo = 1 + draws.below(draws.of([4, 8, 8, 31]))
@@ -54,43 +56,45 @@ def drawn(number, kind):
                 plain or not draws.one_in(3), tempo, 32 + draws.below(224), orders, patterns, instruments)
 
 
-def pattern(draws, channels, parts, plain):
+def pattern(draws, channels, parts, effects):
     rows = draws.of([1, 2, 3, 8, 16, 33, 64, draws.of([64, 256])])
     share = draws.of([1, 1, 2, 4])
-    cells = [cell(draws, parts, plain) if draws.one_in(share) else EMPTY for _ in range(rows * channels)]
+    cells = [cell(draws, parts, effects) if draws.one_in(share) else EMPTY for _ in range(rows * channels)]
     return Pattern(rows, cells)
 
 
-def cell(draws, parts, plain):
-    note = 1 + draws.below(96) if draws.one_in(3) else 30 + draws.below(40)
-    if not plain and draws.one_in(8):
+def cell(draws, parts, effects):
+    note = draws.of([30 + draws.below(40), 30 + draws.below(40), 1 + draws.below(96), draws.of([1, 2, 95, 96])])
+    if effects and draws.one_in(8):
         note = 97
     note = draws.of([0, note])
     # a few name an instrument that isn't there
     part = draws.of([0, 1 + draws.below(parts), 1 + draws.below(parts + draws.below(2))])
     volume = draws.of([0, 0, 0x10 + draws.below(65)])
-    if plain:
+    if not effects:
         return (note, part, volume, 0, 0)
     if draws.one_in(3):
-        volume = draws.below(256)
-    return (note, part, volume, *effect(draws))
+        volume = draws.of([draws.below(256), 0x60 + draws.below(160), draws.of([0x0F, 0x50, 0x51, 0xB0, 0xF0])])
+    return (note, part, volume, *effect(draws, effects))
 
 
-def effect(draws):
-    if draws.one_in(4):
+def effect(draws, effects):
+    if draws.one_in(5):
         return (0, 0)
-    if draws.one_in(40):
+    if draws.one_in(50):
         return (draws.below(256), draws.below(256))
-    number, digit = draws.of(TURNS) if draws.one_in(12) else draws.of(EFFECTS)
+    number, digit = draws.of(TURNS) if draws.one_in(10) else draws.of(effects)
     parameter = draws.of([0, draws.below(16), draws.below(16) * 16, draws.below(8) * 16 + draws.below(8), draws.below(256)])
     if digit is not None:
-        parameter = 16 * digit + draws.of([0, draws.below(4), draws.below(16)])
+        parameter = 16 * digit + draws.of([0, draws.below(4), draws.below(8), draws.below(16)])
     elif number == 9:
         parameter = draws.below(4)
     elif number == 11:
         parameter = draws.below(8)
+    elif number == 13:
+        parameter = draws.of([draws.below(256), draws.below(4) * 16 + draws.below(10), 0x63, 0x64])
     elif number == 15:
-        parameter = draws.of([draws.below(8), draws.below(32), draws.below(256)])
+        parameter = draws.of([draws.below(8), draws.below(33), draws.below(256)])
     elif number in (20, 3):
         parameter = draws.of([draws.below(8), parameter])
     return (number, parameter)
@@ -127,14 +131,14 @@ def envelope(draws, kind):
 
 def sample(draws, kind):
     wide = kind != "plain" and draws.one_in(2)
-    count = draws.of([draws.below(4), 50, 700, 700, 700, 9000])
+    count = draws.of([draws.below(4), 50, 512, 700, 700, 9000])
     frames = [draws.signed(16 if wide else 8) for _ in range(count)]
     loop = (0, 0, 0)
     if kind != "plain" and count and not draws.one_in(3):
         start = draws.below(count)
         loop = (1 + draws.below(2), start, 1 + draws.below(min(count - start, draws.of([2, 40, 9000]))))
-    finetune = draws.of([0, draws.signed(8)])
-    relative = draws.of([0, 0, draws.below(25) - 12, draws.of([draws.below(97) - 48, draws.signed(8)])])
+    finetune = draws.of([0, draws.signed(8), -1 - draws.below(128)])
+    relative = draws.of([0, 0, draws.below(25) - 12, draws.of([draws.below(97) - 48, draws.signed(8), 23, 24, -1])])
     return Sample(b"sample".ljust(22, b"\0"), draws.of([64, 40, draws.below(65)]), finetune, relative,
                   draws.of([128, draws.below(256)]), wide, loop, frames)
 
