@@ -14,6 +14,9 @@ from slow_writer import written
 
 EFFECTS = [(effect, None) for effect in (0, 1, 2, 3, 4, 5, 6, 7, 8, 9, 10, 12, 16, 17, 20, 21, 25, 27, 29)]
 EFFECTS += [(14, digit) for digit in range(16)] + [(33, 1), (33, 2)]
+# effects that show what they do only where they meet
+FAMILIES = [[(3, None), (5, None), (14, 3)], [(4, None), (6, None), (14, 4)], [(7, None), (14, 7)],
+            [(9, None), (14, 9), (27, None)], [(14, 13), (14, 14)], [(14, 6), (11, None), (13, None)]]
 # chosen more rarely: they lead away from a row, or change the time of all
 TURNS = [(11, None), (13, None), (14, 6), (14, 14), (15, None)]
 
@@ -47,7 +50,7 @@ def drawn(number, kind):
     channels = draws.of([1, 2, 3, 4, 4, 6, 8, 32])
     instruments = [instrument(draws, kind) for _ in range(1 + draws.below(4))]
     # a song has some of the effects only, so that they meet
-    effects = [] if plain else [draws.of(EFFECTS) for _ in range(3 + draws.below(12))]
+    effects = [] if plain else draws.of(FAMILIES) + [draws.of(EFFECTS) for _ in range(1 + draws.below(8))]
     patterns = [pattern(draws, channels, len(instruments), effects) for _ in range(1 + draws.below(4))]
     # some orders name a pattern that isn't stored
     orders = [0] + [draws.below(len(patterns) + draws.below(2)) for _ in range(draws.below(6))]
@@ -74,7 +77,7 @@ def cell(draws, parts, effects):
     if not effects:
         return (note, part, volume, 0, 0)
     if draws.one_in(3):
-        volume = draws.of([draws.below(256), 0x60 + draws.below(160), draws.of([0x0F, 0x50, 0x51, 0xB0, 0xF0])])
+        volume = draws.of([draws.below(256), 0x60 + draws.below(160), draws.of([0x0F, 0x50, 0x51, 0x72, 0xB0, 0xF0])])
     return (note, part, volume, *effect(draws, effects))
 
 
@@ -88,13 +91,15 @@ def effect(draws, effects):
     if digit is not None:
         parameter = 16 * digit + draws.of([0, draws.below(4), draws.below(8), draws.below(16)])
     elif number == 9:
-        parameter = draws.below(4)
+        parameter = draws.of([0, 1, 2, draws.below(4)])
     elif number == 11:
         parameter = draws.below(8)
     elif number == 13:
         parameter = draws.of([draws.below(256), draws.below(4) * 16 + draws.below(10), 0x63, 0x64])
     elif number == 15:
-        parameter = draws.of([draws.below(8), draws.below(33), draws.below(256)])
+        parameter = draws.of([draws.below(8), draws.below(8), 31, 32, draws.below(256)])
+    elif number == 27:
+        parameter = 16 * draws.below(16) + draws.of([0, 1 + draws.below(3), draws.below(16)])
     elif number in (20, 3):
         parameter = draws.of([draws.below(8), parameter])
     return (number, parameter)
@@ -138,7 +143,7 @@ def sample(draws, kind):
         start = draws.below(count)
         loop = (1 + draws.below(2), start, 1 + draws.below(min(count - start, draws.of([2, 40, 9000]))))
     finetune = draws.of([0, draws.signed(8), -1 - draws.below(128)])
-    relative = draws.of([0, 0, draws.below(25) - 12, draws.of([draws.below(97) - 48, draws.signed(8), 23, 24, -1])])
+    relative = draws.of([0, 0, draws.below(25) - 12, draws.of([draws.below(97) - 48, draws.signed(8)]), draws.of([23, 24, -1])])
     return Sample(b"sample".ljust(22, b"\0"), draws.of([64, 40, draws.below(65)]), finetune, relative,
                   draws.of([128, draws.below(256)]), wide, loop, frames)
 
