@@ -16,7 +16,7 @@ from slow_reader import read
 from slow_replay import CHANNEL, STATE, states
 from slow_writer import written
 
-TICKS = 200
+TICKS = 300
 HEARD = set("volume_envelope panning_envelope auto_position auto_age step left right last".split())
 
 

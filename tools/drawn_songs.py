@@ -15,8 +15,9 @@ from slow_writer import written
 EFFECTS = [(effect, None) for effect in (0, 1, 2, 3, 4, 5, 6, 7, 8, 9, 10, 12, 16, 17, 20, 21, 25, 27, 29)]
 EFFECTS += [(14, digit) for digit in range(16)] + [(33, 1), (33, 2)]
 # effects that show what they do only where they meet
-FAMILIES = [[(3, None), (5, None), (14, 3)], [(4, None), (6, None), (14, 4)], [(7, None), (14, 7)],
-            [(9, None), (14, 9), (27, None)], [(14, 13), (14, 14)], [(14, 6), (11, None), (13, None)]]
+FAMILIES = [[(0, None), (1, None), (2, None), (4, None)], [(3, None), (5, None), (14, 3)],
+            [(4, None), (6, None), (14, 4)], [(7, None), (14, 7)], [(9, None), (14, 9), (27, None)],
+            [(14, 13), (14, 14)], [(14, 6), (11, None), (13, None)]]
 # chosen more rarely: they lead away from a row, or change the time of all
 TURNS = [(11, None), (13, None), (14, 6), (14, 14), (15, None)]
 
@@ -50,7 +51,7 @@ def drawn(number, kind):
     channels = draws.of([1, 2, 3, 4, 4, 6, 8, 32])
     instruments = [instrument(draws, kind) for _ in range(1 + draws.below(4))]
     # a song has some of the effects only, so that they meet
-    effects = [] if plain else draws.of(FAMILIES) + [draws.of(EFFECTS) for _ in range(1 + draws.below(8))]
+    effects = [] if plain else 2 * draws.of(FAMILIES) + [draws.of(EFFECTS) for _ in range(1 + draws.below(8))]
     patterns = [pattern(draws, channels, len(instruments), effects) for _ in range(1 + draws.below(4))]
     # some orders name a pattern that isn't stored
     orders = [0] + [draws.below(len(patterns) + draws.below(2)) for _ in range(draws.below(6))]
@@ -70,7 +71,7 @@ def cell(draws, parts, effects):
     note = draws.of([30 + draws.below(40), 30 + draws.below(40), 1 + draws.below(96), draws.of([1, 2, 95, 96])])
     if effects and draws.one_in(8):
         note = 97
-    note = draws.of([0, note])
+    note = draws.of([0, 0, note] if effects else [0, note])
     # a few name an instrument that isn't there
     part = draws.of([0, 1 + draws.below(parts), 1 + draws.below(parts + draws.below(2))])
     volume = draws.of([0, 0, 0x10 + draws.below(65)])
