@@ -155,7 +155,7 @@ class Replay:
         voice.left, voice.right = gain * (256 - panning) // 256, gain * panning // 256
         if channel.released:  # 40
             channel.fade = max(0, channel.fade - (instrument.fadeout if instrument else 0))
-            voice.last = channel.fade == 0
+            voice.last = voice.last or channel.fade == 0
 
     def heard_period(self, channel, offset):  # 32
         period = channel.period
