@@ -17,7 +17,7 @@ EFFECTS += [(14, digit) for digit in range(16)] + [(33, 1), (33, 2)]
 # effects that show what they do only where they meet
 FAMILIES = [[(0, None), (1, None), (2, None), (4, None)], [(3, None), (5, None), (14, 3)],
             [(4, None), (6, None), (14, 4)], [(7, None), (14, 7)], [(9, None), (14, 9), (27, None)],
-            [(14, 13), (14, 14)], [(14, 6), (11, None), (13, None)]]
+            [(14, 13), (14, 14)], [(14, 6), (11, None), (13, None)], [(12, None), (14, 12), (10, None)]]
 # chosen more rarely: they lead away from a row, or change the time of all
 TURNS = [(11, None), (13, None), (14, 6), (14, 14), (15, None)]
 
@@ -51,7 +51,7 @@ def drawn(number, kind):
     channels = draws.of([1, 2, 3, 4, 4, 6, 8, 32])
     instruments = [instrument(draws, kind) for _ in range(1 + draws.below(4))]
     # a song has some of the effects only, so that they meet
-    effects = [] if plain else 2 * draws.of(FAMILIES) + [draws.of(EFFECTS) for _ in range(1 + draws.below(8))]
+    effects = [] if plain else 3 * draws.of(FAMILIES) + [draws.of(EFFECTS) for _ in range(draws.below(7))]
     patterns = [pattern(draws, channels, len(instruments), effects) for _ in range(1 + draws.below(4))]
     # some orders name a pattern that isn't stored
     orders = [0] + [draws.below(len(patterns) + draws.below(2)) for _ in range(draws.below(6))]
@@ -91,6 +91,10 @@ def effect(draws, effects):
     parameter = draws.of([0, draws.below(16), draws.below(16) * 16, draws.below(8) * 16 + draws.below(8), draws.below(256)])
     if digit is not None:
         parameter = 16 * digit + draws.of([0, draws.below(4), draws.below(8), draws.below(16)])
+    elif number == 0:
+        parameter = draws.of([parameter, 0xC0 + draws.below(64), 16 * draws.below(16) + 12 + draws.below(4)])
+    elif number in (4, 7):
+        parameter = draws.of([parameter, draws.below(256)])
     elif number == 9:
         parameter = draws.of([0, 1, 2, draws.below(4)])
     elif number == 11:
@@ -101,7 +105,9 @@ def effect(draws, effects):
         parameter = draws.of([draws.below(8), draws.below(8), 31, 32, draws.below(256)])
     elif number == 27:
         parameter = 16 * draws.below(16) + draws.of([0, 1 + draws.below(3), draws.below(16)])
-    elif number in (20, 3):
+    elif number == 3:
+        parameter = draws.of([draws.below(8), 4, 8, parameter])
+    elif number == 20:
         parameter = draws.of([draws.below(8), parameter])
     return (number, parameter)
 
@@ -144,7 +150,7 @@ def sample(draws, kind):
         start = draws.below(count)
         loop = (1 + draws.below(2), start, 1 + draws.below(min(count - start, draws.of([2, 40, 9000]))))
     finetune = draws.of([0, draws.signed(8), -1 - draws.below(128)])
-    relative = draws.of([0, 0, draws.below(25) - 12, draws.of([draws.below(97) - 48, draws.signed(8)]), draws.of([23, 24, -1])])
+    relative = draws.of([0, 0, draws.below(25) - 12, draws.of([draws.below(97) - 48, draws.signed(8), 23, 24, -1])])
     return Sample(b"sample".ljust(22, b"\0"), draws.of([64, 40, draws.below(65)]), finetune, relative,
                   draws.of([128, draws.below(256)]), wide, loop, frames)
 
