@@ -7,7 +7,7 @@ Half of all are damaged: cut short, or with changed bytes or fields."""
 import pathlib
 import sys
 
-from varied_songs import Draws
+from drawn_songs import Draws
 
 # what plain songs don't have
 ODDITIES = ["periods", "key off", "volume", "effect", "parameter", "samples", "wide", "loop",
@@ -30,6 +30,8 @@ BAD_PARTS = {
     "data size": [1, 2, 7, 65535],
     "instrument size": [28, 29, 240, 2**32 - 1],
     "samples": [17, 256],
+}
+BAD_SAMPLES = {
     "sample length": [983_040, 983_041, 1_966_081, 1_966_082, 2**32 - 1],
     "sample type": [0x20, 0x30],
 }
@@ -191,7 +193,7 @@ class Speller(Draws):
         self.file[at + self.below(size)] = self.below(256)
 
     def change_field(self):
-        bad = self.pick(BAD_HEADER, BAD_PARTS, BAD_PARTS)
+        bad = self.pick(BAD_HEADER, BAD_PARTS, BAD_PARTS, BAD_SAMPLES)
         names = [name for name in bad if name in self.fields]
         if names:
             name = self.pick(*names)

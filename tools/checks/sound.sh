@@ -1,7 +1,11 @@
 #!/usr/bin/env bash
 # The program against a slow reading of the sound's rules that was written apart from it: the
-# examples, and twelve varied songs, byte for byte.
+# examples, and songs drawn from numbers, byte for byte.
+#
+#     sound.sh [COUNT [KIND]]    COUNT drawn songs of a kind of tools/drawn_songs.py: 12 plain ones
 set -u
+count=${1:-12}
+kind=${2:-plain}
 here=$(cd "$(dirname "$0")/../.." && pwd)
 work=$(mktemp -d)
 trap 'rm -rf "$work"' EXIT
@@ -20,12 +24,12 @@ for song in silence first scale; do
     compare "$work/songs/$song.xm" 44100 2
 done
 compare "$work/songs/first.xm" 8363 1
-python3 "$here/tools/varied_songs.py" "$work" 12
+python3 "$here/tools/drawn_songs.py" "$work" "$count" "$kind"
 rate=8000
-for song in "$work"/varied*.xm; do
+for song in "$work/$kind"*.xm; do
     compare "$song" "$rate" 2
     rate=$((rate + 3557))
     [ "$rate" -gt 48000 ] && rate=8000
 done
-[ "$failed" = 0 ] && echo "the program sounds as its rules say: 16 songs, byte for byte"
+[ "$failed" = 0 ] && echo "the program sounds as its rules say: 4 examples and $count songs of the kind $kind, byte for byte"
 exit "$failed"
