@@ -6,3 +6,4 @@ mod PatternFacts
 mod InstrumentFacts
 mod SampleFacts
 mod Valid
+mod Allowed

@@ -9,10 +9,15 @@ use Rattle.ft_edits.specs.Edited.{edited}
 use Rattle.ft_edits.specs.Apply.{apply, apply_batch}
 use Rattle.ft_edits.specs.Versions.{module_at}
 use Rattle.ft_edits.specs.Given.{HoldsFields}
+use Rattle.ft_edits.specs.Allowed.{Allows}
 
 -- an edit of a valid song that isn't refused gives a valid song
 abbrev pub EditedIsValid : Type 0
 EditedIsValid = (song : Module) (edit : Edit) → IsValid song → HoldsFields edit → fault_of song edit ≡ None → IsValid (edited song edit)
+
+-- an edit that isn't refused names what is there
+abbrev pub AllowedIsThere : Type 0
+AllowedIsThere = (song : Module) (edit : Edit) → fault_of song edit ≡ None → Allows song edit
 
 -- so does `apply`
 abbrev pub AppliedIsValid : Type 0

@@ -7,4 +7,5 @@ pub mod Edited
 pub mod Apply
 pub mod Versions
 pub mod Given
+pub mod Allowed
 pub mod Laws

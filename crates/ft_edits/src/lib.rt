@@ -7,4 +7,4 @@
 
 mod laws;
 
-pub use laws::valid_stays_valid;
+pub use laws::{allowed_is_there, valid_stays_valid};
