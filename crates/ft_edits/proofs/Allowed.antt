@@ -40,13 +40,19 @@ sample_rest song i s causes none =
     let b = passed (nat_lt s (samples_at song i)) _ causes a.1 in
     b.1
 
+some_instrument : (song : Module) (i s : ℕ) (causes : List (Option EditFault)) → first_of (sampled song i s causes) ≡ None → 0 < i
+some_instrument song i s causes none =
+    let a = passed (nat_lt 0 i && nat_le i (length song.instruments)) _ (sample_of song i s ∷ causes) none in
+    low 0 i (both (nat_lt 0 i) (nat_le i (length song.instruments)) a.0).0
+
 frames_there : (song : Module) (i s from to : ℕ) (causes : List (Option EditFault)) → first_of (framed song i s from to causes) ≡ None
     → HasFrames song i s from to × (first_of causes ≡ None)
 frames_there song i s from to causes none =
     let rest = sample_rest song i s (unless (nat_le from to && nat_le to (frames_at song i s)) (Cut from to (frames_at song i s)) ∷ causes) none in
     let p = passed (nat_le from to && nat_le to (frames_at song i s)) (Cut from to (frames_at song i s)) causes rest in
     let b = both (nat_le from to) (nat_le to (frames_at song i s)) p.0 in
-    ((most from to b.0, most to (frames_at song i s) b.1), p.1)
+    let some = some_instrument song i s (unless (nat_le from to && nat_le to (frames_at song i s)) (Cut from to (frames_at song i s)) ∷ causes) none in
+    ((some, most from to b.0, most to (frames_at song i s) b.1), p.1)
 
 pub allowed : AllowedIsThere
 allowed song (edits.Insrow p r) none = row_there song p r none
@@ -75,4 +81,8 @@ allowed song (edits.Reverse i s from to) none = (frames_there song i s from to [
 allowed song (edits.Scale i s from to n d) none =
     let h = frames_there song i s from to (unless (nat_lt 0 d) (Range 14 (pos 0)) ∷ []) none in
     (h.0, low 0 d (passed (nat_lt 0 d) (Range 14 (pos 0)) [] h.1).0)
+allowed song (edits.Smpname i s name) none = some_instrument song i s _ none
+allowed song (edits.Smp i s vol fine rel pan) none = some_instrument song i s _ none
+allowed song (edits.Loop i s kind start len) none = some_instrument song i s _ none
+allowed song (edits.Bits i s b) none = some_instrument song i s _ none
 allowed song _ none = tt

@@ -10,9 +10,9 @@ use Rattle.ft_edits.specs.Faults.{frames_at}
 abbrev pub HasBlock : Module → ℕ → ℕ → ℕ → ℕ → ℕ → Type 0
 HasBlock song p r c h w = (p < length song.patterns) × (r + h ≤ rows_at song p) × (c + w ≤ song.channels)
 
--- the frames are there
+-- the frames are there, in an instrument; they count from 1
 abbrev pub HasFrames : Module → ℕ → ℕ → ℕ → ℕ → Type 0
-HasFrames song i s from to = (from ≤ to) × (to ≤ frames_at song i s)
+HasFrames song i s from to = (0 < i) × (from ≤ to) × (to ≤ frames_at song i s)
 
 abbrev pub Allows : Module → Edit → Type 0
 Allows song (edits.Insrow p r) = r < rows_at song p
@@ -28,4 +28,8 @@ Allows song (edits.Cut i s from to) = HasFrames song i s from to
 Allows song (edits.Paste i s at frames) = HasFrames song i s at at
 Allows song (edits.Reverse i s from to) = HasFrames song i s from to
 Allows song (edits.Scale i s from to n d) = HasFrames song i s from to × (0 < d)
+Allows song (edits.Smpname i s name) = 0 < i
+Allows song (edits.Smp i s vol fine rel pan) = 0 < i
+Allows song (edits.Loop i s kind start len) = 0 < i
+Allows song (edits.Bits i s b) = 0 < i
 Allows song _ = Unit {0}

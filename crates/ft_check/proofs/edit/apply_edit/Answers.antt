@@ -1,0 +1,13 @@
+use Rattle.std.proofs.Common.{Ok, sym, ap, ◌∙◌}
+use Rattle.ft_edits.specs.Apply.{apply, unless_fault}
+use Rattle.ft_edits.specs.Edited.{edited}
+use Rattle.ft_check.proofs.edit.apply_edit.Goals as goal
+
+pub returns-in-Some-clause-fault : goal.returns-in-Some-clause-fault
+unfolding apply
+returns-in-Some-clause-fault c = ap (λ cause. unless_fault cause (edited c.args.m.now c.args.e.now)) (sym c.fault_of.ensures ∙ c.in-Some.is)
+
+pub returns-in-Ok-clause-ok : goal.returns-in-Ok-clause-ok
+unfolding apply
+returns-in-Ok-clause-ok c =
+    ap (λ cause. unless_fault cause (edited c.args.m.now c.args.e.now)) (sym c.fault_of.ensures ∙ c.in-None.is) ∙ ap Ok (sym c.in-Ok.ensures.ok)
