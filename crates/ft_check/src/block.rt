@@ -186,7 +186,8 @@ pub(crate) fn copy_block(
     requires valid { IsValid m.old }
     requires from { HasBlock m.old p r c block.h block.w }
     requires there { HasBlock m.old q block.r block.c block.h block.w }
-    ensures ok { OnOk result (m.new ≡ with_pattern q (with_block m.old.channels block.r block.c block.h
+    ensures ok { OnOk result (m.new
+        ≡ with_pattern q (with_block m.old.channels block.r block.c block.h
         block.w (λ row channel cell. copied m.old p r c block.r block.c row channel)) m.old) }
     ensures err { OnErr result (m.new ≡ m.old) }
 {

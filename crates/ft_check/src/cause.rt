@@ -178,7 +178,8 @@ pub(crate) fn frames_of(m: &Module, i: u8, s: u8, from: u32, to: u32) -> Option<
 /// A loop lies within the frames, or is none.
 pub(crate) fn loop_of(m: &Module, i: u8, s: u8, kind: u8, start: u32, len: u32) -> Option<EditFault>
     requires { IsValid m.now }
-    ensures { result ≡ unless (nat_eq kind 0 || (nat_lt 0 len && nat_le (start + len) (frames_at m.now i s)))
+    ensures { result ≡ unless
+        (nat_eq kind 0 || (nat_lt 0 len && nat_le (start + len) (frames_at m.now i s)))
         (EditFault.Cut start (start + len) (frames_at m.now i s)) }
 {
     let frames = frames_at(m, i, s);

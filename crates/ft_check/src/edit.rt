@@ -7,18 +7,18 @@ ghost use Rattle.ft_edits.specs.Allowed.{Allows};
 ghost use Rattle.ft_edits.specs.Apply.{apply};
 ghost use Rattle.ft_edits.specs.Edited.{edited};
 ghost use Rattle.ft_edits.specs.Faults.{fault_of};
-ghost use Rattle.ft_edits.specs.Given.{HoldsFields};
 ghost use Rattle.ft_check.specs.Applied.{IsCause};
 
 use crate::block::{Block, BlockChange, change_block, copy_block};
 use crate::fault::fault_of;
+use crate::fields::holds_fields;
 use crate::instrument::{InstrumentChange, change_instrument};
 use crate::pattern::{PatternChange, change_pattern};
 use crate::sample::{SampleChange, change_sample, paste_into};
 use crate::song::{
     add_instrument, add_pattern, insert_order, remove_order, remove_pattern, set_order,
 };
-use ft_edits::allowed_is_there;
+use ft_edits::{allowed_is_there, valid_stays_valid};
 use ft_types::{Cell, Edit, EditFault, Module, NoMemory, Vibrato};
 use std::alloc::Global;
 use thiserror::Error;
@@ -297,11 +297,14 @@ pub fn apply_edit(alloc: Global, m: &mut Module, e: &Edit) -> Result<(), ApplyFa
     ensures ok { OnOk result (apply m.old e.now ≡ Ok m.new) }
     ensures fault { IfErr result (λ fault. IsCause fault (apply m.old e.now)) }
     ensures kept { OnErr result (m.new ≡ m.old) }
+    ensures valid { IsValid m.new }
 {
     match fault_of(m, e) {
         Some(fault) => Err(ApplyFault::Edit(fault)),
         None => {
             allowed_is_there();
+            holds_fields(e);
+            valid_stays_valid();
             match do_edit(alloc, m, e) {
                 Ok(()) => Ok(()),
                 Err(NoMemory) => Err(ApplyFault::NoMemory),

@@ -89,7 +89,8 @@ pub(crate) fn scale(frames: &mut Vec<i16>, wide: bool, from: usize, to: usize, n
     requires order { from ≤ to }
     requires there { to ≤ length frames.old.items }
     requires some { 0 < d }
-    ensures { frames.new.items ≡ with_stretch from to (map (scaled_frame wide n d)) frames.old.items }
+    ensures { frames.new.items
+        ≡ with_stretch from to (map (scaled_frame wide n d)) frames.old.items }
 {
     scale_all(&mut frames[from..to], wide, n, d);
 }

@@ -5,6 +5,7 @@ mod block;
 mod cause;
 mod edit;
 mod fault;
+mod fields;
 mod frames;
 mod instrument;
 mod pattern;

@@ -106,7 +106,8 @@ fn insert_row(cells: &mut [Cell], at: usize, channels: usize)
 /// Takes the row at a place out; an empty one comes last.
 fn remove_row(cells: &mut [Cell], at: usize, channels: usize)
     requires { at + channels ≤ length cells.old }
-    ensures { cells.new ≡ take at cells.old ++ (drop (at + channels) cells.old ++ empty_rows channels 1) }
+    ensures { cells.new ≡ take at cells.old
+        ++ (drop (at + channels) cells.old ++ empty_rows channels 1) }
 {
     row_last(&mut cells[at..], channels);
 }
