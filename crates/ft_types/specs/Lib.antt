@@ -6,3 +6,6 @@ pub mod Blocks
 pub mod Words
 pub mod ModuleViews
 pub mod ModuleViewLaws
+pub mod Lends
+pub mod Edits
+pub mod Journals

@@ -5,11 +5,20 @@
 //! list of their elements. Which modules are valid, and which are plain, is
 //! defined in `specs/`: `valid` and `is_plain` answer it, and `blocks` says how
 //! many blocks a valid module takes. None of the three takes memory.
+//!
+//! An `Edit` is a change of a module that is asked for, a `Batch` some edits that are
+//! committed together, and a `Journal` what was committed and what was refused.
 #![tactic(auto)]
 
+mod batch;
 mod block_count;
+mod commit_fault;
+mod edit;
+mod edit_copy;
+mod edit_fault;
 mod instrument;
 mod items;
+mod journal;
 mod kept;
 mod module;
 mod module_view;
@@ -25,9 +34,14 @@ mod view;
 mod voice;
 mod words;
 
+pub use batch::{Batch, BatchFault, MOST_EDITS};
 pub use block_count::blocks;
+pub use commit_fault::CommitFault;
+pub use edit::Edit;
+pub use edit_fault::EditFault;
 pub use instrument::{Envelope, Instrument, Instruments, Point, Shape, Vibrato};
 pub use items::Items;
+pub use journal::{Entry, Journal, Refusal};
 pub use module::{Module, Orders, SongHead};
 pub use module_view::ModuleView;
 pub use no_memory::NoMemory;

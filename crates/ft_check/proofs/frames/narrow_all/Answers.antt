@@ -1,0 +1,19 @@
+use Rattle.std.proofs.Common.{rules, ◌≡◌, ℤ, pos, FitsSigned, to_z, of_z, get_or, ap, ◌∙◌, arith}
+use Rattle.std.specs.Int.{w16}
+use Rattle.std.proofs.lemmas.Int.{to_z-of_z}
+use Rattle.std.proofs.lemmas.List.{get_or_default}
+use Rattle.std.proofs.lemmas.List.Edits.{map_over_more}
+use Rattle.ft_edits.specs.Samples.{floor_of}
+use Rattle.ft_check.proofs.frames.narrow_all.Goals as goal
+
+pub loop-frame-preserved : goal.loop-frame-preserved
+loop-frame-preserved c =
+    let l = c.loop-frame in
+    let frame : ℤ = get_or l.frames l.frame-index (pos 0) in
+    let change : ℤ → ℤ = λ frame. floor_of frame 256 in
+    let fits : FitsSigned w16 c.narrowed.result = search rules in
+    let read : FitsSigned w16 frame = search rules in
+    let new : to_z w16 (of_z w16 c.narrowed.result) ≡ change frame =
+    to_z-of_z w16 c.narrowed.result fits ∙ c.narrowed.ensures ∙ ap change (to_z-of_z w16 frame read) in
+    rw new (map_over_more change c.args.frames.now l.frames l.frame-index frame (omega arith) l.invariant
+    (get_or_default l.frames l.frame-index (pos 0) frame (omega arith)))

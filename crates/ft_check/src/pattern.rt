@@ -1,0 +1,166 @@
+//! Changes of one pattern, done in place.
+
+ghost use Rattle.std.specs.Prelude.{◌≡◌, ◌≤◌, ◌<◌, ◌+◌, ◌-◌, ◌*◌, ◌++◌, length, take, drop, set, replicate, OnOk, OnErr};
+ghost use Rattle.ft_types.specs.Valid.{IsValid, IsValidPattern};
+ghost use Rattle.ft_types.specs.Views.{empty_cell, rows_at};
+ghost use Rattle.ft_edits.specs.Patterns.{with_pattern, with_cell, with_rows, with_new_row, without_row, empty_rows};
+ghost use Rattle.ft_check.specs.Changes.{pattern_changed, SuitsRows};
+
+use ft_types::{Cell, Cells, Module, NoMemory, Pattern};
+use std::alloc::Global;
+use std::mem;
+
+/// A change of one pattern. Rows and channels count from 0.
+#[derive(Clone, Copy)]
+pub(crate) enum PatternChange {
+    /// Sets a cell.
+    Put {
+        /// Row.
+        r: u16,
+        /// Channel.
+        c: u8,
+        /// Cell.
+        cell: Cell,
+    },
+    /// Gives it so many rows.
+    Resize {
+        /// Rows, 1 to 256.
+        n: u16,
+    },
+    /// Puts an empty row before a row.
+    InsertRow {
+        /// Row.
+        r: u16,
+    },
+    /// Takes a row out.
+    RemoveRow {
+        /// Row.
+        r: u16,
+    },
+}
+
+/// Sets the cell at a place, if there is one.
+fn put(cells: &mut Cells, at: usize, cell: Cell)
+    ensures { cells.new ≡ set cells.old at cell }
+{
+    match cells.get_mut(at) {
+        Some(place) => *place = cell,
+        None => {}
+    }
+}
+
+/// Cuts cells, or fills them with empty ones, to so many.
+#[tactic(auto, using(crate::proofs::Parts::filled))]
+fn fill(cells: &mut Vec<Cell>, count: usize) -> Result<(), NoMemory>
+    ensures ok { OnOk result (cells.new.items
+        ≡ take count (cells.old.items ++ replicate count empty_cell)) }
+    ensures err { OnErr result (cells.new.items ≡ cells.old.items) }
+{
+    cells.resize(count, Cell::EMPTY)?;
+    Ok(())
+}
+
+/// Gives a pattern so many rows: it is cut, or filled with empty ones.
+fn resize(alloc: Global, pattern: &mut Pattern, channels: u8, n: u16) -> Result<(), NoMemory>
+    ensures ok { OnOk result (pattern.new ≡ with_rows channels n pattern.old) }
+    ensures err { OnErr result (pattern.new ≡ pattern.old) }
+{
+    let count = usize::from(n) * usize::from(channels);
+    let mut cells = mem::replace(&mut pattern.cells, Cells::new(alloc)).into_vec();
+    let done = fill(&mut cells, count);
+    pattern.cells = Cells::from_vec(cells);
+    done?;
+    pattern.rows = n;
+    Ok(())
+}
+
+/// Puts an empty row before all others; the last one drops out.
+fn row_first(cells: &mut [Cell], channels: usize)
+    requires { channels ≤ length cells.old }
+    ensures { cells.new ≡ empty_rows channels 1 ++ take (length cells.old - channels) cells.old }
+{
+    cells.rotate_right(channels);
+    cells[..channels].fill(Cell::EMPTY);
+}
+
+/// Takes the first row out; an empty one comes last.
+fn row_last(cells: &mut [Cell], channels: usize)
+    requires { channels ≤ length cells.old }
+    ensures { cells.new ≡ drop channels cells.old ++ empty_rows channels 1 }
+{
+    cells.rotate_left(channels);
+    let kept = cells.len() - channels;
+    cells[kept..].fill(Cell::EMPTY);
+}
+
+/// Puts an empty row at a place; the last one drops out.
+
+fn insert_row(cells: &mut [Cell], at: usize, channels: usize)
+    requires { at + channels ≤ length cells.old }
+    ensures { cells.new ≡ take (length cells.old)
+        (take at cells.old ++ (empty_rows channels 1 ++ drop at cells.old)) }
+{
+    row_first(&mut cells[at..], channels);
+}
+
+/// Takes the row at a place out; an empty one comes last.
+fn remove_row(cells: &mut [Cell], at: usize, channels: usize)
+    requires { at + channels ≤ length cells.old }
+    ensures { cells.new ≡ take at cells.old
+        ++ (drop (at + channels) cells.old ++ empty_rows channels 1) }
+{
+    row_last(&mut cells[at..], channels);
+}
+
+/// Changes a pattern in a song of so many channels.
+fn change(
+    alloc: Global,
+    pattern: &mut Pattern,
+    channels: u8,
+    change: PatternChange,
+) -> Result<(), NoMemory>
+    requires valid { IsValidPattern channels pattern.old }
+    requires there { SuitsRows pattern.old.rows change }
+    ensures ok { OnOk result (pattern.new ≡ pattern_changed channels change pattern.old) }
+    ensures err { OnErr result (pattern.new ≡ pattern.old) }
+{
+    let width = usize::from(channels);
+    match change {
+        PatternChange::Put { r, c, cell } => {
+            put(
+                &mut pattern.cells,
+                usize::from(r) * width + usize::from(c),
+                cell,
+            );
+            Ok(())
+        }
+        PatternChange::Resize { n } => resize(alloc, pattern, channels, n),
+        PatternChange::InsertRow { r } => {
+            insert_row(pattern.cells.as_mut_slice(), usize::from(r) * width, width);
+            Ok(())
+        }
+        PatternChange::RemoveRow { r } => {
+            remove_row(pattern.cells.as_mut_slice(), usize::from(r) * width, width);
+            Ok(())
+        }
+    }
+}
+
+/// Changes a pattern of the song.
+pub(crate) fn change_pattern(
+    alloc: Global,
+    m: &mut Module,
+    p: u8,
+    how: PatternChange,
+) -> Result<(), NoMemory>
+    requires valid { IsValid m.old }
+    requires there { SuitsRows (rows_at m.old p) how }
+    ensures ok { OnOk result (m.new ≡ with_pattern p (pattern_changed m.old.channels how) m.old) }
+    ensures err { OnErr result (m.new ≡ m.old) }
+{
+    let channels = m.channels;
+    match m.patterns.get_mut(usize::from(p)) {
+        Some(pattern) => change(alloc, pattern, channels, how),
+        None => Ok(()),
+    }
+}

@@ -1,0 +1,9 @@
+mod Worked
+mod ListFacts
+mod Causes
+mod SongFacts
+mod PatternFacts
+mod InstrumentFacts
+mod SampleFacts
+mod Valid
+mod Allowed

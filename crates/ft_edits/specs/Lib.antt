@@ -1,0 +1,11 @@
+pub mod Lists
+pub mod Faults
+pub mod Patterns
+pub mod Instruments
+pub mod Samples
+pub mod Edited
+pub mod Apply
+pub mod Versions
+pub mod Given
+pub mod Allowed
+pub mod Laws
