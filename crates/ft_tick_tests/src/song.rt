@@ -51,9 +51,9 @@ pub const SONG: Song = Song {
 };
 
 /// Puts cells into a channel of two.
-fn put_cells(cells: &mut [Cell], channel: usize, named: &[At]) {
+fn put_cells(cells: &mut [Cell], channel: u8, named: &[At]) {
     for (row, note, instrument, volume, effect, parameter) in named.iter() {
-        if let Some(cell) = cells.get_mut(2 * usize::from(*row) + channel) {
+        if let Some(cell) = cells.get_mut(2 * usize::from(*row) + usize::from(channel)) {
             *cell = Cell {
                 note: *note,
                 instrument: *instrument,
