@@ -39,12 +39,7 @@ fn start_often<V: SongView>(
 }
 
 /// Makes later ticks of a channel, N times, in turn the first to the fifth.
-fn tick_often<V: SongView>(
-    view: &mut V,
-    channel: &mut Channel,
-    control: &mut Control,
-    rounds: u32,
-)
+fn tick_often<V: SongView>(view: &mut V, channel: &mut Channel, control: &mut Control, rounds: u32)
     requires wide { 0 < length (V.holds view.old) }
     requires range { IsChannelInRange 0 channel.old }
 {
