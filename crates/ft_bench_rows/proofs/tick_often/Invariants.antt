@@ -1,4 +1,4 @@
-use Rattle.std.proofs.Common.{◌≡◌, ◌≤◌, ◌<◌, length}
+use Rattle.std.proofs.Common.{◌<◌, length}
 use Rattle.ft_replay.specs.Range.{IsChannelInRange}
 use Rattle.ft_bench_rows.proofs.tick_often.Given as goal
 
