@@ -7,7 +7,10 @@ use Rattle.ft_replay.specs.declared.effect.Effect.{Effect}
 use Rattle.ft_replay.specs.declared.state.Channel.{Channel}
 use Rattle.ft_replay.specs.declared.state.Control.{Control}
 use Rattle.ft_replay.specs.State.{Lane, Turn}
-use Rattle.ft_replay.specs.Effects.{effect_in, volume_effect_of}
+use Rattle.ft_replay.specs.declared.effect.Effect.TheVariants.{Nothing}
+use Rattle.ft_replay.specs.declared.effect.VolumeEffect.TheVariants as column
+use Rattle.ft_replay.specs.Effects.{effect_in, effect_of, digit_effect, volume_effect_of}
+use Rattle.ft_replay.specs.Rules.{slide_tick, swing_tick, control_tick}
 use Rattle.ft_replay.specs.VolumeColumn.{volume_tick_of}
 use Rattle.ft_replay.specs.Row.{with_channel, with_offset, is_delayed, strike_of, delayed_strike, effect_start_of, effect_tick_of, row_start_of, row_tick_of}
 use Rattle.ft_replay.specs.Standing.{lane_of, turn_of, Became, Turned}
@@ -102,3 +105,22 @@ pub delayed_turned : (shown : Shown) (c : ℕ) (cell : Cell) (channel : Channel)
     → Turned c (row_start_of shown.version shown.song c cell (turn_of c shown channel control)) shown shown channel control
 unfolding row_start_of
 delayed_turned shown c cell channel control late = rw late (record { lane = record { same = refl; kept = keeping_same c shown }; same = refl })
+
+-- a cell without an effect has none, and so has its volume byte
+still_effect : (cell : Cell) → cell.effect ≡ 0 → cell.parameter ≡ 0 → effect_in cell ≡ Nothing
+unfolding effect_of digit_effect
+still_effect cell e p = rw e (rw p refl)
+
+still_volume : (cell : Cell) → cell.volume ≡ 0 → volume_effect_of cell.volume ≡ column.Nothing
+unfolding volume_effect_of
+still_volume cell v = rw v refl
+
+-- such a cell turns nothing in later ticks
+by_nothing : (shown : Shown) (c u : ℕ) (channel : Channel) (control : Control) → effect_in channel.cell ≡ Nothing → volume_effect_of channel.cell.volume ≡ column.Nothing
+    → Turned c (row_tick_of shown.version shown.song c u (turn_of c shown channel control)) shown shown channel control
+unfolding row_tick_of effect_tick_of volume_tick_of slide_tick swing_tick control_tick
+by_nothing shown c u channel control e v = rw e (rw v (record { lane = record { same = refl; kept = keeping_same c shown }; same = refl }))
+
+pub still_turned : (shown : Shown) (c u : ℕ) (channel : Channel) (control : Control) → channel.cell.volume ≡ 0 → channel.cell.effect ≡ 0 → channel.cell.parameter ≡ 0
+    → Turned c (row_tick_of shown.version shown.song c u (turn_of c shown channel control)) shown shown channel control
+still_turned shown c u channel control v e p = by_nothing shown c u channel control (still_effect channel.cell e p) (still_volume channel.cell v)

@@ -1,6 +1,6 @@
 //! A row on one channel: its start, and its later ticks.
 
-ghost use Rattle.std.specs.Prelude.{◌≡◌, ◌≤◌, ◌<◌, ◌+◌, ℕ, length};
+ghost use Rattle.std.specs.Prelude.{◌≡◌, ◌≤◌, ◌<◌, ◌+◌, ℕ, true, length};
 ghost use Rattle.ft_replay.specs.Calls as calls;
 ghost use Rattle.ft_replay.specs.Effects as effects;
 ghost use Rattle.ft_replay.specs.Range.{IsChannelInRange, IsTimed};
@@ -121,6 +121,13 @@ fn strike_late<V: SongView>(
     }
 }
 
+/// Whether a cell says nothing of later ticks: it has neither a volume byte nor an effect.
+fn is_still(cell: Cell) -> bool
+    ensures { result ≡ true → (cell.volume ≡ 0) × ((cell.effect ≡ 0) × (cell.parameter ≡ 0)) }
+{
+    cell.volume == 0 && cell.effect == 0 && cell.parameter == 0
+}
+
 /// Tick `u`, from 1, of the row on channel `c`, from 0, whose cell the channel has.
 ///
 /// It takes the later rule of the volume byte, and then that of the effect; a delayed note begins
@@ -146,6 +153,9 @@ pub fn row_tick<V: SongView>(view: &mut V, ch: &mut Channel, ctl: &mut Control, 
     ensures same { V.same view.old view.new }
 {
     let cell = ch.cell;
+    if is_still(cell) {
+        return;
+    }
     let effect = Effect::of(cell);
     volume_tick(ch, VolumeEffect::of(cell.volume));
     strike_late(view, ch, c, cell, u, effect);

@@ -4,7 +4,7 @@ use Rattle.ft_replay.specs.Row.{row_tick_of}
 use Rattle.ft_replay.specs.declared.effect.VolumeEffect.{VolumeEffect}
 use Rattle.ft_replay.specs.Effects.{volume_effect_of}
 use Rattle.ft_replay.specs.VolumeColumn.{volume_tick_of}
-use Rattle.ft_channel.proofs.Turning.{tick_turned, turns_shown}
+use Rattle.ft_channel.proofs.Turning.{still_turned, tick_turned, turns_shown}
 use Rattle.ft_channel.proofs.row.row_tick.Goals as goal
 
 pub strike_late-requires-clause-range : goal.strike_late-requires-clause-range
@@ -29,3 +29,15 @@ pub returns-clause-shown : goal.returns-clause-shown
 returns-clause-shown g c =
     turns_shown g.V.SongView.shows g.V.SongView.shown (λ (version : ℕ) (song : Module) (d : ℕ). row_tick_of version song d c.args.u) c.args.c c.args.view.now c.effect_tick.new.view c.args.ch.now c.effect_tick.new.channel c.args.ctl.now c.effect_tick.new.control
     (returns-clause-turned g c)
+
+pub returns-then-is_still-clause-turned : goal.returns-then-is_still-clause-turned
+returns-then-is_still-clause-turned g c = λ w is.
+    let still = c.is_still.ensures c.if-is_still.true in (
+      is,
+      still_turned (g.V.SongView.shown c.args.view.now w) c.args.c c.args.u c.args.ch.now c.args.ctl.now still.0 still.1.0 still.1.1,
+    )
+
+pub returns-then-is_still-clause-shown : goal.returns-then-is_still-clause-shown
+returns-then-is_still-clause-shown g c =
+    turns_shown g.V.SongView.shows g.V.SongView.shown (λ (version : ℕ) (song : Module) (d : ℕ). row_tick_of version song d c.args.u) c.args.c c.args.view.now c.args.view.now c.args.ch.now c.args.ch.now c.args.ctl.now c.args.ctl.now
+    (returns-then-is_still-clause-turned g c)
