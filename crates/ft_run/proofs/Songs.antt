@@ -2,7 +2,6 @@
 use Rattle.std.proofs.Common.{◌≡◌, ◌≢◌, ℕ, ◌+◌, ◌<◌, ◌≤◌, List, [], length, Option, Some, inl, inr, ◌⊎◌, refl, sym, subst, arith}
 use Rattle.std.specs.Prelude.{IfOk, IfErr, IfSome, Result, Ok, Err}
 use Rattle.ft_types.specs.declared.module.Module.{Module}
-use Rattle.ft_types.specs.Plain.{IsPlain}
 use Rattle.ft_format.specs.Spelling.{Spells}
 use Rattle.ft_outer.specs.Counts.{Rose}
 use Rattle.ft_outer.specs.Pieces.{GivesAll, HasMore}
@@ -13,8 +12,8 @@ use Rattle.ft_run.specs.declared.song.TheConstants.{MOST_BYTES}
 use Rattle.ft_run.specs.declared.status.Status.{Status}
 use Rattle.ft_run.specs.declared.status.Status.TheVariants as statuses
 use Rattle.ft_run.specs.declared.status.SongFault.{SongFault}
-use Rattle.ft_run.specs.declared.status.SongFault.TheVariants.{Xm, NotYet, TooBig}
-use Rattle.ft_run.specs.Songs.{ReadsSong, IsAnySong, IsSongFile, ending}
+use Rattle.ft_run.specs.declared.status.SongFault.TheVariants.{Xm, TooBig}
+use Rattle.ft_run.specs.Songs.{ReadsSong, IsSongFile, ending}
 use Rattle.ft_run.specs.Statuses.{IsAccepted, IsAfterReading, IsOfCopy, IsUnread, RefusesSong, refusal_of}
 
 -- ---- sources
@@ -70,10 +69,6 @@ refusal_small : (found : XmFault) → refusal_of found ≢ statuses.Song TooBig
 refusal_small faults.NoMemory e = cc
 refusal_small found e = cc
 
-refusal_yet : (found : XmFault) → refusal_of found ≢ statuses.Song NotYet
-refusal_yet faults.NoMemory e = cc
-refusal_yet found e = cc
-
 refusal_early : (found : XmFault) → IsAfterReading (refusal_of found) → ⊥
 refusal_early faults.NoMemory h = h
 refusal_early found h = h
@@ -81,33 +76,26 @@ refusal_early found h = h
 refuses_big : (found : XmFault) → found ≡ faults.NoMemory → RefusesSong (refusal_of found) TooBig
 refuses_big found wanting = subst (λ (f : XmFault). RefusesSong (refusal_of f) TooBig) (sym wanting) tt
 
--- where a song that is spelled isn't read, the source failed, or memory was wanting
-unread : (status : Status) (fault : SongFault) → IsAccepted status → IsUnread status → RefusesSong status fault
-unread statuses.SongRead fault accepted kind = tt
-unread statuses.NoMemory fault accepted kind = tt
-unread (statuses.Song found) fault accepted kind = absurd accepted
-unread status fault accepted kind = absurd kind
-
 done_small : statuses.Done ≢ statuses.Song TooBig
 done_small e = cc
 
 -- `copy` refuses no song that is spelled
-pub of_copy : (r : Result Module Status) (status : Status) → r ≡ Err status → r ≢ Err (statuses.Song NotYet) → IsUnread status → IsOfCopy status
-of_copy r (statuses.Song NotYet) e never kind = absurd (never e)
-of_copy r (statuses.Song fault) e never kind = tt
-of_copy r statuses.SongRead e never kind = tt
-of_copy r statuses.NoMemory e never kind = tt
-of_copy r status e never kind = absurd kind
+pub of_copy : (r : Result Module Status) (status : Status) → r ≡ Err status → IsUnread status → IsOfCopy status
+of_copy r (statuses.Song (Xm fault)) e kind = tt
+of_copy r (statuses.Song TooBig) e kind = tt
+of_copy r statuses.SongRead e kind = tt
+of_copy r statuses.NoMemory e kind = tt
+of_copy r status e kind = absurd kind
 
 -- ---- where a run ends
 
 module _ {Source : Type 0} (left : Source → Option (List ℕ)) (given failed : Source → ℕ) (old new : Source) where
-  abbrev Reads : (Module → Type 0) → Status → Type 0
-  Reads IsTaken status = ReadsSong IsTaken left given failed old new status
+  abbrev Reads : Status → Type 0
+  Reads status = ReadsSong left given failed old new status
 
   -- the source failed
-  pub source_failed : (IsTaken : Module → Type 0) → Rose (failed old) (failed new) → given new ≤ given old + MOST_BYTES → Reads IsTaken statuses.SongRead
-  source_failed IsTaken rose few = record {
+  pub source_failed : Rose (failed old) (failed new) → given new ≤ given old + MOST_BYTES → Reads statuses.SongRead
+  source_failed rose few = record {
     count = record { told = λ _. rose; kept = λ other. absurd (other refl) };
     too_big = (λ e. absurd cc, λ more. absurd (omega (arith, more, few)));
     held_more = λ file told e. absurd cc;
@@ -115,15 +103,13 @@ module _ {Source : Type 0} (left : Source → Option (List ℕ)) (given failed :
     fault = λ file fault told e. absurd cc;
     refused = λ file fault told has. tt;
     never_memory = λ e. cc;
-    not_yet = λ file told e. absurd cc;
-    not_taken = λ file song told spelled other. tt;
-    accepted = λ file song told spelled taken. tt;
+    accepted = λ file song told spelled. tt;
     whole = λ after. absurd after;
   }
 
   -- memory was wanting
-  pub memory_wanted : (IsTaken : Module → Type 0) → failed new ≡ failed old → given new ≤ given old + MOST_BYTES → Reads IsTaken statuses.NoMemory
-  memory_wanted IsTaken kept few = record {
+  pub memory_wanted : failed new ≡ failed old → given new ≤ given old + MOST_BYTES → Reads statuses.NoMemory
+  memory_wanted kept few = record {
     count = record { told = λ e. absurd cc; kept = λ _. kept };
     too_big = (λ e. absurd cc, λ more. absurd (omega (arith, more, few)));
     held_more = λ file told e. absurd cc;
@@ -131,15 +117,13 @@ module _ {Source : Type 0} (left : Source → Option (List ℕ)) (given failed :
     fault = λ file fault told e. absurd cc;
     refused = λ file fault told has. tt;
     never_memory = λ e. cc;
-    not_yet = λ file told e. absurd cc;
-    not_taken = λ file song told spelled other. tt;
-    accepted = λ file song told spelled taken. tt;
+    accepted = λ file song told spelled. tt;
     whole = λ after. absurd after;
   }
 
   -- the source gave too much
-  pub gave_more : (IsTaken : Module → Type 0) → failed new ≡ failed old → given old + MOST_BYTES < given new → HasMore (left old) MOST_BYTES → Reads IsTaken (statuses.Song TooBig)
-  gave_more IsTaken kept more held = record {
+  pub gave_more : failed new ≡ failed old → given old + MOST_BYTES < given new → HasMore (left old) MOST_BYTES → Reads (statuses.Song TooBig)
+  gave_more kept more held = record {
     count = record { told = λ e. absurd cc; kept = λ _. kept };
     too_big = (λ _. more, λ _. refl);
     held_more = λ file told _. told_more (left old) file MOST_BYTES told held;
@@ -147,9 +131,7 @@ module _ {Source : Type 0} (left : Source → Option (List ℕ)) (given failed :
     fault = λ file fault told e. absurd cc;
     refused = λ file fault told has. absurd (omega (arith, told.1, told_more (left old) file MOST_BYTES told.0 held));
     never_memory = λ e. cc;
-    not_yet = λ file told e. absurd cc;
-    not_taken = λ file song told spelled other. absurd (omega (arith, told.1, told_more (left old) file MOST_BYTES told.0 held));
-    accepted = λ file song told spelled taken. absurd (omega (arith, told.1, told_more (left old) file MOST_BYTES told.0 held));
+    accepted = λ file song told spelled. absurd (omega (arith, told.1, told_more (left old) file MOST_BYTES told.0 held));
     whole = λ after. absurd after;
   }
 
@@ -164,7 +146,7 @@ module _ {Source : Type 0} (left : Source → Option (List ℕ)) (given failed :
         omega (arith, few, some, same)
 
     -- all was read, and is a song
-    pub song_read : ((fault : XmFault) → HasFault bytes fault → ⊥) → Reads IsAnySong statuses.Done
+    pub song_read : ((fault : XmFault) → HasFault bytes fault → ⊥) → Reads statuses.Done
     song_read sound = record {
       count = record { told = λ e. absurd cc; kept = λ _. kept };
       too_big = (λ e. absurd cc, λ more. absurd (omega (arith, more, few)));
@@ -173,16 +155,14 @@ module _ {Source : Type 0} (left : Source → Option (List ℕ)) (given failed :
       fault = λ file fault told e. absurd cc;
       refused = λ file fault told has. sound fault (subst (λ (it : List ℕ). HasFault it fault) (sym (whole_of file told.0)) has);
       never_memory = λ e. cc;
-      not_yet = λ file told e. absurd cc;
-      not_taken = λ file song told spelled other. other tt;
-      accepted = λ file song told spelled taken. tt;
+      accepted = λ file song told spelled. tt;
       whole = λ _. told_end (left old) (left new) bytes all;
     }
 
     -- all was read, and has a fault
     pub song_refused : (found : XmFault) → IsFaultOf bytes found
         → ((fault : XmFault) → HasFault bytes fault → (found ≡ fault) ⊎ (found ≡ faults.NoMemory))
-        → ((song : Module) → Spells bytes song → found ≡ faults.NoMemory) → Reads IsAnySong (refusal_of found)
+        → ((song : Module) → Spells bytes song → found ≡ faults.NoMemory) → Reads (refusal_of found)
     song_refused found is first only = record {
       count = record { told = λ e. absurd (refusal_kept found e); kept = λ _. kept };
       too_big = (λ e. absurd (refusal_small found e), λ more. absurd (omega (arith, more, few)));
@@ -192,78 +172,14 @@ module _ {Source : Type 0} (left : Source → Option (List ℕ)) (given failed :
       refused = λ file fault told has.
           refuses found fault (first fault (subst (λ (it : List ℕ). HasFault it fault) (sym (whole_of file told.0)) has));
       never_memory = never_memory found;
-      not_yet = λ file told e. absurd (refusal_yet found e);
-      not_taken = λ file song told spelled other. absurd (other tt);
-      accepted = λ file song told spelled taken. accepts found (only song (subst (λ (it : List ℕ). Spells it song) (sym (whole_of file told.0)) spelled));
+      accepted = λ file song told spelled. accepts found (only song (subst (λ (it : List ℕ). Spells it song) (sym (whole_of file told.0)) spelled));
       whole = λ after. absurd (refusal_early found after);
     }
 
-  -- ---- plain songs
-
-  -- no song was read
-  pub none_read : (status : Status) → IsUnread status → Reads IsAnySong status → Reads IsPlain status
-  none_read status kind any = record {
-    count = any.count;
-    too_big = any.too_big;
-    held_more = any.held_more;
-    told_more = any.told_more;
-    fault = any.fault;
-    refused = any.refused;
-    never_memory = any.never_memory;
-    not_yet = λ file told e. absurd ((any.not_yet file told e).2 tt);
-    not_taken = λ file song told spelled other. unread status NotYet (any.accepted file song told spelled tt) kind;
-    accepted = λ file song told spelled taken. any.accepted file song told spelled tt;
-    whole = any.whole;
-  }
-
-  -- a plain song was read
-  pub plain_read : (song : Module) → IsPlain song
-      → ((file : List ℕ) (it : Module) → IsSongFile (left old) file → Spells file it → song ≡ it)
-      → Reads IsAnySong statuses.Done → Reads IsPlain statuses.Done
-  plain_read song plain only any = record {
-    count = any.count;
-    too_big = any.too_big;
-    held_more = any.held_more;
-    told_more = any.told_more;
-    fault = any.fault;
-    refused = any.refused;
-    never_memory = any.never_memory;
-    not_yet = λ file told e. absurd cc;
-    not_taken = λ file it told spelled other. other (subst IsPlain (only file it told spelled) plain);
-    accepted = λ file it told spelled taken. tt;
-    whole = any.whole;
-  }
-
-  -- a song was read that isn't plain
-  pub other_read : (song : Module) → (IsPlain song → ⊥) → IfSome (left old) (λ file. Spells file song)
-      → ((file : List ℕ) (it : Module) → IsSongFile (left old) file → Spells file it → song ≡ it)
-      → Reads IsAnySong statuses.Done → Reads IsPlain (statuses.Song NotYet)
-  other_read song other told_song only any = record {
-    count = record { told = λ e. absurd cc; kept = λ _. any.count.kept (λ e. cc) };
-    too_big = (λ e. absurd cc, λ more. absurd (done_small (any.too_big.1 more)));
-    held_more = λ file told e. absurd cc;
-    told_more = λ file told longer. absurd (any.told_more file told longer);
-    fault = λ file fault told e. absurd cc;
-    refused = λ file fault told has. absurd (any.refused file fault told has);
-    never_memory = λ e. cc;
-    not_yet = λ file told _. (song, subst (λ (held : Option (List ℕ)). IfSome held (λ (it : List ℕ). Spells it song)) told told_song, other);
-    not_taken = λ file it told spelled not_plain. refl;
-    accepted = λ file it told spelled plain. absurd (other (subst IsPlain (sym (only file it told spelled)) plain));
-    whole = λ after. absurd after;
-  }
-
-  -- a song was read, and is taken where it is plain
-  pub plain_ends : (song : Module) (r : Result Module Status) → IfOk r (λ it. (it ≡ song) × IsPlain song)
-      → IfErr r (λ status. (status ≡ statuses.Song NotYet) × (IsPlain song → ⊥)) → IfSome (left old) (λ file. Spells file song)
-      → ((file : List ℕ) (it : Module) → IsSongFile (left old) file → Spells file it → song ≡ it)
-      → Reads IsAnySong statuses.Done → Reads IsPlain (ending r)
-  plain_ends song (Ok it) ok err told only any = plain_read song ok.1 only any
-  plain_ends song (Err status) ok err told only any = subst (λ (it : Status). Reads IsPlain it) (sym err.0) (other_read song err.1 told only any)
-
   -- what follows once the song is read changes nothing of this
-  pub goes_on : (IsTaken : Module → Type 0) (status : Status) → status ≢ statuses.SongRead → ((fault : SongFault) → status ≢ statuses.Song fault)
-      → IsAccepted status → Reads IsTaken statuses.Done → Reads IsTaken status
-  goes_on IsTaken status not_read not_refused accepted read = record {
+  pub goes_on : (status : Status) → status ≢ statuses.SongRead → ((fault : SongFault) → status ≢ statuses.Song fault)
+      → IsAccepted status → Reads statuses.Done → Reads status
+  goes_on status not_read not_refused accepted read = record {
     count = record { told = λ e. absurd (not_read e); kept = λ _. read.count.kept (λ e. cc) };
     too_big = (λ e. absurd (not_refused TooBig e), λ more. absurd (done_small (read.too_big.1 more)));
     held_more = λ file told e. absurd (not_refused TooBig e);
@@ -271,8 +187,6 @@ module _ {Source : Type 0} (left : Source → Option (List ℕ)) (given failed :
     fault = λ file fault told e. absurd (not_refused (Xm fault) e);
     refused = λ file fault told has. absurd (read.refused file fault told has);
     never_memory = not_refused (Xm faults.NoMemory);
-    not_yet = λ file told e. absurd (not_refused NotYet e);
-    not_taken = λ file song told spelled other. absurd (read.not_taken file song told spelled other);
-    accepted = λ file song told spelled taken. accepted;
+    accepted = λ file song told spelled. accepted;
     whole = λ _. read.whole tt;
   }

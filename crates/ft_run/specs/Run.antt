@@ -3,7 +3,6 @@ use Rattle.std.specs.Fmt.{decimal}
 use Rattle.std.specs.Prelude.{◌≡◌, ◌++◌, codes, length, ℕ, ◌*◌, List, Option, IfSome}
 use Rattle.ft_types.specs.declared.module.Module.{Module}
 use Rattle.ft_types.specs.Valid.{IsValid}
-use Rattle.ft_types.specs.Plain.{IsPlain}
 use Rattle.ft_types.specs.Blocks.{blocks_of}
 use Rattle.ft_format.specs.Canon.{canon}
 use Rattle.ft_format.specs.Spelling.{Spells}
@@ -23,11 +22,10 @@ frames_asked step = step.rate * step.seconds
 unfoldable pub wav_of : Module → Step → List ℕ
 wav_of song step = wav_bytes step.rate (frames_asked step) (sound_of_song song (frames_asked step) step.rate)
 
--- the WAV file of the plain song that the source held, where that is told
+-- the WAV file of the song that the source held, where that is told
 pub record IsOutput (step : Step) (held : Option (List ℕ)) (bytes : List ℕ) : Type 0 where
   pub song : Module
   pub valid : IsValid song
-  pub plain : IsPlain song
   pub told : IfSome held (λ file. Spells file song)
   pub wav : bytes ≡ wav_of song step
 

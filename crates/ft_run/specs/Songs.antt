@@ -8,20 +8,16 @@ use Rattle.ft_xmread.specs.Song.{HasFault}
 use Rattle.ft_run.specs.declared.song.TheConstants.{MOST_BYTES}
 use Rattle.ft_run.specs.declared.status.Status.{Status}
 use Rattle.ft_run.specs.declared.status.Status.TheVariants.{Done, Song, SongRead}
-use Rattle.ft_run.specs.declared.status.SongFault.TheVariants.{Xm, NotYet, TooBig}
+use Rattle.ft_run.specs.declared.status.SongFault.TheVariants.{Xm, TooBig}
 use Rattle.ft_run.specs.Statuses.{IsCounted, IsAccepted, IsAfterReading, RefusesSong}
-
--- every song: those that `copy` takes
-abbrev pub IsAnySong : Module → Type 0
-IsAnySong song = Unit {0}
 
 -- the source held these bytes, which are few enough for a song
 abbrev pub IsSongFile : Option (List ℕ) → List ℕ → Type 0
 IsSongFile held file = (held ≡ Some file) × (length file ≤ MOST_BYTES)
 
--- What a run tells of the song of a source. It takes the songs that are so and so; of the source it
--- is known what it has left, where that is told, how many bytes it gave, and how often it failed.
-pub record ReadsSong {Source : Type 0} (IsTaken : Module → Type 0) (left : Source → Option (List ℕ))
+-- What a run tells of the song of a source. Of the source it is known what it has left, where that is
+-- told, how many bytes it gave, and how often it failed.
+pub record ReadsSong {Source : Type 0} (left : Source → Option (List ℕ))
     (given faults : Source → ℕ) (old new : Source) (result : Status) : Type 0 where
   -- it could not be read only where the source counted a fault, and else none was counted
   pub count : IsCounted SongRead result (faults old) (faults new)
@@ -38,13 +34,9 @@ pub record ReadsSong {Source : Type 0} (IsTaken : Module → Type 0) (left : Sou
   pub refused : (file : List ℕ) (fault : XmFault) → IsSongFile (left old) file → HasFault file fault
       → RefusesSong result (Xm fault)
   pub never_memory : result ≢ Song (Xm xm.NoMemory)
-  -- a song that its bytes spell is taken exactly where it is so and so
-  pub not_yet : (file : List ℕ) → left old ≡ Some file → result ≡ Song NotYet
-      → (song : Module) × Spells file song × (IsTaken song → ⊥)
-  pub not_taken : (file : List ℕ) (song : Module) → IsSongFile (left old) file → Spells file song
-      → (IsTaken song → ⊥) → RefusesSong result NotYet
+  -- a song that its bytes spell is taken
   pub accepted : (file : List ℕ) (song : Module) → IsSongFile (left old) file → Spells file song
-      → IsTaken song → IsAccepted result
+      → IsAccepted result
   -- it is read to its end
   pub whole : IsAfterReading result → IfSome (left old) (λ _. left new ≡ Some [])
 

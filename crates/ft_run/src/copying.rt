@@ -4,20 +4,20 @@ ghost use Rattle.std.specs.Prelude.{◌≡◌, ◌<◌, ◌^◌, ℕ, List};
 ghost use Rattle.std.specs.Io.KnownBytes.{Appends};
 ghost use Rattle.ft_outer.specs.Pieces.{TakesFront};
 ghost use Rattle.ft_run.specs.Run.{IsCopy};
-ghost use Rattle.ft_run.specs.Songs.{ReadsSong, IsAnySong};
+ghost use Rattle.ft_run.specs.Songs.{ReadsSong};
 ghost use Rattle.ft_run.specs.Statuses.{IsBeforePlay, IsCounted, IsOfCopy};
 
-use crate::song::read_any_song;
+use crate::song::read_song;
 use crate::status::Status;
 use ft_outer::{Sink, Source, put_all};
 use ft_xmwrite::write_xm;
 use std::alloc::Global;
 
-/// Reads a song, plain or not, and writes its canonical bytes.
+/// Reads a song, and writes its canonical bytes.
 pub fn copy_song<S: Source, W: Sink>(alloc: Global, song: &mut S, out: &mut W) -> Status
     requires { S.given song.old < 2 ^ 63 }
     ensures kinds { IsOfCopy result }
-    ensures read { ReadsSong IsAnySong S.left S.given S.faults song.old song.new result }
+    ensures read { ReadsSong S.left S.given S.faults song.old song.new result }
     ensures done { result ≡ Status.Done → (bytes : List ℕ) × IsCopy (S.left song.old) bytes
         × Appends (W.held out.old) (W.held out.new) bytes }
     ensures wav_count { IsCounted Status.WavWrite result (W.faults out.old) (W.faults out.new) }
@@ -25,7 +25,7 @@ pub fn copy_song<S: Source, W: Sink>(alloc: Global, song: &mut S, out: &mut W) -
         × TakesFront (W.held out.old) (W.held out.new) bytes }
     ensures unwritten { IsBeforePlay result → out.new ≡ out.old }
 {
-    let module = match read_any_song(alloc, song) {
+    let module = match read_song(alloc, song) {
         Ok(module) => module,
         Err(status) => return status,
     };

@@ -2,7 +2,6 @@
 
 ghost use Rattle.std.specs.Prelude.{◌≡◌, ◌≢◌, ◌⊎◌, ◌↔◌, ◌+◌, ◌<◌, ◌^◌, ℕ, List};
 ghost use Rattle.std.specs.Io.KnownBytes.{Appends};
-ghost use Rattle.ft_types.specs.Plain.{IsPlain};
 ghost use Rattle.ft_format.specs.Canon.{canon};
 ghost use Rattle.ft_outer.specs.Pieces.{TakesFront};
 ghost use Rattle.ft_words.specs.Refused.{IsRefused, IsNoCommand};
@@ -12,7 +11,7 @@ ghost use Rattle.ft_xmwrite.specs.Generate.{generated};
 ghost use Rattle.ft_run.specs.declared.song.TheConstants.{MOST_BYTES};
 ghost use Rattle.ft_run.specs.Commands.{texts, AskForStep, AskForCopy, AskForGen};
 ghost use Rattle.ft_run.specs.Run.{IsAskedFor, gen_line};
-ghost use Rattle.ft_run.specs.Songs.{ReadsSong, IsAnySong};
+ghost use Rattle.ft_run.specs.Songs.{ReadsSong};
 ghost use Rattle.ft_run.specs.Statuses.{IsBeforePlay, IsCounted, IsOfStep, IsOfCopy, IsOfGen, RefusesWords};
 
 use crate::copying::copy_song;
@@ -56,12 +55,12 @@ pub fn run_plain<S: Source, W: Sink, L: Sink>(
     ensures of_copy { AskForCopy (texts words.now) → IsOfCopy result }
     ensures of_gen { AskForGen (texts words.now) → IsOfGen result }
 
-    // The song is read as its command wants it, and by no other words. It is too big exactly where
+    // The song is read by `step` and `copy`, and by no other words. It is too big exactly where
     // its source gave too much.
     ensures stepped { AskForStep (texts words.now)
-        → ReadsSong IsPlain S.left S.given S.faults song.old song.new result }
+        → ReadsSong S.left S.given S.faults song.old song.new result }
     ensures copied { AskForCopy (texts words.now)
-        → ReadsSong IsAnySong S.left S.given S.faults song.old song.new result }
+        → ReadsSong S.left S.given S.faults song.old song.new result }
     ensures too_big { (result ≡ Status.Song SongFault.TooBig)
         ↔ (S.given song.old + MOST_BYTES < S.given song.new) }
     ensures gen_reads_nothing { AskForGen (texts words.now) → song.new ≡ song.old }

@@ -1,61 +1,30 @@
 //! Reading a song from its source.
 
-ghost use Rattle.std.specs.Prelude.{◌≡◌, ◌≢◌, ◌<◌, ◌^◌, ℕ, List, Err, IfOk, IfErr, IfSome};
+ghost use Rattle.std.specs.Prelude.{◌≡◌, ◌<◌, ◌^◌, ℕ, List, IfOk, IfErr, IfSome};
 ghost use Rattle.ft_types.specs.declared.module.Module.{Module as Song};
 ghost use Rattle.ft_types.specs.Valid.{IsValid};
-ghost use Rattle.ft_types.specs.Plain.{IsPlain};
 ghost use Rattle.ft_format.specs.Spelling.{Spells};
 ghost use Rattle.ft_run.specs.Statuses.{IsUnread, refusal_of};
-ghost use Rattle.ft_run.specs.Songs.{ReadsSong, IsAnySong, IsSongFile, IsReadAs, ending};
+ghost use Rattle.ft_run.specs.Songs.{ReadsSong, IsSongFile, IsReadAs, ending};
 
 use crate::status::{SongFault, Status};
 use ft_outer::{ReadFault, Source, read_all};
-use ft_types::{Module, is_plain};
+use ft_types::Module;
 use ft_xmread::{XmFault, read_xm};
 use std::alloc::Global;
 
 /// The largest song file, in bytes.
 pub const MOST_BYTES: usize = 67_108_864;
 
-/// The plain song of a source that is read to its end, or the status of the run where there is
-/// none.
+/// The song of a source that is read to its end, or the status of the run where there is none.
 pub fn read_song<S: Source>(alloc: Global, source: &mut S) -> Result<Module, Status>
     requires { S.given source.old < 2 ^ 63 }
     ensures valid { IfOk result IsValid }
-    ensures plain { IfOk result IsPlain }
     ensures told { IfOk result (λ song. IfSome (S.left source.old) (λ file. Spells file song)) }
-    ensures read { ReadsSong IsPlain S.left S.given S.faults source.old source.new (ending result) }
-    ensures kinds { IfErr result IsUnread }
-{
-    match read_any_song(alloc, source) {
-        Ok(song) => plain_song(song),
-        Err(status) => Err(status),
-    }
-}
-
-/// This song, where it is plain.
-fn plain_song(song: Module) -> Result<Module, Status>
-    ensures plain { IfOk result (λ it. (it ≡ song) × IsPlain song) }
-    ensures not_yet { IfErr result (λ status. (status ≡ Status.Song SongFault.NotYet)
-        × (IsPlain song → ⊥)) }
-{
-    if !is_plain(&song) {
-        return Err(Status::Song(SongFault::NotYet));
-    }
-    Ok(song)
-}
-
-/// The song of a source that is read to its end, plain or not.
-pub fn read_any_song<S: Source>(alloc: Global, source: &mut S) -> Result<Module, Status>
-    requires { S.given source.old < 2 ^ 63 }
-    ensures valid { IfOk result IsValid }
-    ensures told { IfOk result (λ song. IfSome (S.left source.old) (λ file. Spells file song)) }
-    ensures read { ReadsSong IsAnySong S.left S.given S.faults source.old source.new
-        (ending result) }
+    ensures read { ReadsSong S.left S.given S.faults source.old source.new (ending result) }
     ensures only { (file : List ℕ) (song : Song) → IsSongFile (S.left source.old) file
         → Spells file song → IsReadAs result song }
     ensures kinds { IfErr result IsUnread }
-    ensures never_yet { result ≢ Err (Status.Song SongFault.NotYet) }
 {
     let bytes = match read_all(alloc, source, MOST_BYTES) {
         Ok(bytes) => bytes,

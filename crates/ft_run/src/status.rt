@@ -11,8 +11,6 @@ use std::fmt;
 pub enum SongFault {
     /// Its bytes have this fault, which is never want of memory.
     Xm(XmFault),
-    /// Its bytes spell a song that isn't plain, and only plain songs are played so far.
-    NotYet,
     /// It has more than 67,108,864 bytes.
     TooBig,
 }
@@ -92,7 +90,6 @@ const USAGE: &str =
 impl fmt::Display for SongFault {
     fn fmt<W: fmt::Write>(&self, f: &mut fmt::Formatter<W>) -> fmt::Result {
         match self {
-            SongFault::NotYet => write!(f, "not yet"),
             SongFault::TooBig => write!(f, "too big"),
             SongFault::Xm(fault) => write_fault(f, fault),
         }

@@ -2,7 +2,6 @@
 
 ghost use Rattle.std.specs.Prelude.{◌≡◌, ◌<◌, ◌^◌, ℕ, List};
 ghost use Rattle.std.specs.Io.KnownBytes.{Appends};
-ghost use Rattle.ft_types.specs.Plain.{IsPlain};
 ghost use Rattle.ft_outer.specs.Pieces.{TakesFront};
 ghost use Rattle.ft_run.specs.Commands.{IsPlayable};
 ghost use Rattle.ft_run.specs.Run.{IsOutput};
@@ -16,12 +15,12 @@ use ft_outer::{Sink, Source};
 use ft_words::Step;
 use std::alloc::Global;
 
-/// Reads a plain song, and plays it.
+/// Reads a song, and plays it.
 pub fn play_song<S: Source, W: Sink>(alloc: Global, step: Step, song: &mut S, wav: &mut W) -> Status
     requires counted { S.given song.old < 2 ^ 63 }
     requires asked { IsPlayable step }
     ensures kinds { IsOfStep result }
-    ensures read { ReadsSong IsPlain S.left S.given S.faults song.old song.new result }
+    ensures read { ReadsSong S.left S.given S.faults song.old song.new result }
     ensures done { result ≡ Status.Done → (bytes : List ℕ) × IsOutput step (S.left song.old) bytes
         × Appends (W.held wav.old) (W.held wav.new) bytes }
     ensures wav_count { IsCounted Status.WavWrite result (W.faults wav.old) (W.faults wav.new) }
