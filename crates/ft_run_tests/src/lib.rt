@@ -14,6 +14,8 @@ mod most;
 #[cfg(test)]
 mod outside;
 #[cfg(test)]
+mod played;
+#[cfg(test)]
 mod refusals;
 #[cfg(test)]
 mod runs;

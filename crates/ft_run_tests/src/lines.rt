@@ -5,14 +5,13 @@ use ft_xmread::XmFault;
 use std::alloc::{AllocError, Global};
 
 /// Each status but the faults of files, with its text and its code.
-static LINES: [(Status, &str, u8); 10] = [
+static LINES: [(Status, &str, u8); 9] = [
     (Status::Done, "done", 0),
     (
         Status::Usage,
         "usage: live or step SONG WAV LEDGER [SCRIPT]... [--rate=N] [--seconds=N] [--segments=N]; copy SONG OUT; gen NUMBER OUT",
         2,
     ),
-    (Status::Song(SongFault::NotYet), "song refused: not yet", 3),
     (Status::Song(SongFault::TooBig), "song refused: too big", 3),
     (Status::SongRead, "song could not be read", 4),
     (Status::WavWrite, "output could not be written", 5),

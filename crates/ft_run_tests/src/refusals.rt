@@ -85,25 +85,18 @@ fn a_cut_song_tells_the_field_that_it_lacks(rt: HostRuntime) -> Result<(), Fail>
     Ok(())
 }
 
-/// A song that is read, and isn't played yet.
-const NOT_YET: Status = Status::Song(SongFault::NotYet);
-
-/// Other bytes at places of the song of one note, and its refusal. The first is no module. The song is
-/// plain; each other change gives it what isn't: Amiga periods, a key off, a volume byte that sets
-/// none, an effect, an envelope that is on, vibrato, a loop, wide frames.
-static CHANGES: [(&[(usize, u8)], Status); 9] = [
-    (
-        &[(0, b'e')],
-        Status::Song(SongFault::Xm(XmFault::NotXm { at: 0 })),
-    ),
-    (&[(74, 0)], NOT_YET),
-    (&[(346, 97)], NOT_YET),
-    (&[(345, 0x86)], NOT_YET),
-    (&[(345, 0x8A)], NOT_YET),
-    (&[(708, 1)], NOT_YET),
-    (&[(712, 1)], NOT_YET),
-    (&[(746, 2), (752, 1)], NOT_YET),
-    (&[(752, 16)], NOT_YET),
+/// Other bytes at places of the song of one note, each of which makes another form of song: Amiga
+/// periods, a key off, a volume byte that sets none, an effect, an envelope that is on, vibrato, a
+/// loop, wide frames.
+static FORMS: [&[(usize, u8)]; 8] = [
+    &[(74, 0)],
+    &[(346, 97)],
+    &[(345, 0x86)],
+    &[(345, 0x8A)],
+    &[(708, 1)],
+    &[(712, 1)],
+    &[(746, 2), (752, 1)],
+    &[(752, 16)],
 ];
 
 /// The song of one note with other bytes at these places.
@@ -117,18 +110,19 @@ fn with_bytes(alloc: Global, places: &[(usize, u8)]) -> Result<Vec<u8>, AllocErr
     Ok(song)
 }
 
-/// Whether the song with these bytes is refused so.
-fn is_refused_with(alloc: Global, places: &[(usize, u8)], status: Status) -> bool {
-    match with_bytes(alloc, places) {
-        Ok(song) => is_refused(alloc, SECOND, &song, status),
-        Err(_) => false,
-    }
+/// Whether the song with these bytes is played to its end.
+fn is_played_with(alloc: Global, places: &[(usize, u8)]) -> Result<bool, AllocError> {
+    let end = end_of(alloc, SECOND, &with_bytes(alloc, places)?)?;
+    Ok(end.status == Status::Done && end.wav == 32_044)
 }
 
 #[test]
-fn a_changed_song_is_refused_for_its_change(rt: HostRuntime) {
-    for (places, status) in CHANGES.iter() {
-        assert!(rt; is_refused_with(rt.alloc(), places, *status), "{places:?}");
+fn each_form_of_song_is_played(rt: HostRuntime) {
+    for places in FORMS.iter() {
+        assert!(rt;
+            is_played_with(rt.alloc(), places) == Ok(true),
+            "{places:?}"
+        );
     }
 }
 
