@@ -1,4 +1,4 @@
-"""The canonical spelling of plain songs, by docs/FORMAT.md."""
+"""The canonical spelling of simple songs, by docs/FORMAT.md."""
 import struct
 
 EMPTY = (0, 0, 0, 0, 0)

@@ -3,7 +3,7 @@
 
     drawn_songs.py FOLDER COUNT KIND [FIRST]    writes KIND0.xm, KIND1.xm .. to a folder, or from FIRST on
 
-KIND is `plain`; or `rows`, with all effects, volume bytes, both kinds of periods, and keys that go
+KIND is `plain`, with notes and set volumes alone; or `rows`, with all effects, volume bytes, both kinds of periods, and keys that go
 off, but no fading; or `all`, with fading, envelopes, loops and automatic vibrato beside.
 """
 import pathlib

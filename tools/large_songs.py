@@ -1,5 +1,5 @@
 #!/usr/bin/env python3
-"""Writes large plain songs, for the figures of reading: large_songs.py FOLDER
+"""Writes large songs, for the figures of reading: large_songs.py FOLDER
 
 `nothing` is the song that the others are compared with. `samples-4`, `-8` and `-16` are so many
 megabytes of samples. `empty`, `sparse` and `full` are 255 patterns whose cells hold no note, a

@@ -2,14 +2,15 @@
 """Writes songs in varied spellings, and damaged ones, for docs/FORMAT.md's rules:
 mutated_songs.py FOLDER COUNT
 
-Half of the songs are plain; the others have one thing that plain songs don't, or all of them.
+Half of the songs are simple, with linear periods, notes and set volumes alone; the others have one
+thing more, or all that there is.
 Half of all are damaged: cut short, or with changed bytes or fields."""
 import pathlib
 import sys
 
 from drawn_songs import Draws
 
-# what plain songs don't have
+# what simple songs don't have
 ODDITIES = ["periods", "key off", "volume", "effect", "parameter", "samples", "wide", "loop",
             "volume envelope", "panning envelope", "vibrato"]
 
@@ -38,7 +39,7 @@ BAD_SAMPLES = {
 
 
 class Speller(Draws):
-    """Spells one song, field by field. `odd` is what makes it one that isn't plain."""
+    """Spells one song, field by field. `odd` is what it has that simple songs don't."""
 
     def __init__(self, number):
         super().__init__(number)

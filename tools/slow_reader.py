@@ -1,7 +1,7 @@
 #!/usr/bin/env python3
 """A slow reader of docs/FORMAT.md, written apart from the program.
 
-    slow_reader.py SONG..    prints a line for each song: `plain`, `not yet`, or its fault
+    slow_reader.py SONG..    prints a line for each file: `song`, or its fault
 """
 import sys
 from dataclasses import dataclass
@@ -273,29 +273,14 @@ def sample_of(header, data):
                   header.is_wide(), loop_of(header, len(frames)), frames)
 
 
-# ---- plain songs
-
-
-def is_plain(song):
-    cells = (cell for pattern in song.patterns for cell in pattern.cells)
-    return song.linear and all(map(is_plain_cell, cells)) and all(map(is_plain_instrument, song.instruments))
-
-
-def is_plain_cell(cell):
-    note, _, volume, effect, parameter = cell
-    return note <= 96 and (volume == 0 or 0x10 <= volume <= 0x50) and effect == parameter == 0
-
-
-def is_plain_instrument(instrument):
-    envelopes_are_off = instrument.volume.flags % 2 == instrument.panning.flags % 2 == 0
-    samples_are_plain = all(not sample.wide and sample.loop[0] == 0 for sample in instrument.samples)
-    return len(instrument.samples) <= 1 and samples_are_plain and envelopes_are_off and instrument.vibrato[2] == 0
+# ---- what is told of a file
 
 
 def answer(file):
-    """What the program's line says of a song behind `song refused: `, or `plain` where it plays it."""
+    """What the program's line says of a file behind `song refused: `, or `song` where it spells one."""
     try:
-        return "plain" if is_plain(read(file)) else "not yet"
+        read(file)
+        return "song"
     except Fault as fault:
         return fault.line()
 

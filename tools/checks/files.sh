@@ -98,7 +98,8 @@ absent out.wav
 expect 5 'xmstudio: output could not be written' copy "$silence" /dev/full
 [ "$("$here/xmstudio" gen 7 seven.xm)" = 'gen 7 bytes 571238 blocks 409' ] || { echo "gen 7 has another line"; failed=1; }
 [ "$(stat -c %s seven.xm)" = 571238 ] || { echo "gen 7 has other bytes"; failed=1; }
-expect 3 'xmstudio: song refused: not yet' step seven.xm out.wav out.ledger
+expect 0 '' step seven.xm out.wav out.ledger --rate=8000 --seconds=1
+wav 32044
 "$here/xmstudio" gen 7 seven.xm >/dev/full 2>stderr
 [ "$?" = 6 ] || { echo "a line that can't be written isn't told"; failed=1; }
 [ "$(cat stderr)" = 'xmstudio: ledger could not be written' ] || { echo "standard error is: $(cat stderr)"; failed=1; }

@@ -2,10 +2,10 @@
 # The program against a slow reading of the sound's rules that was written apart from it: the
 # examples, and songs drawn from numbers, byte for byte.
 #
-#     sound.sh [COUNT [KIND]]    COUNT drawn songs of a kind of tools/drawn_songs.py: 12 plain ones
+#     sound.sh [COUNT [KIND]]    COUNT drawn songs of a kind of tools/drawn_songs.py: 12 of the kind all
 set -u
 count=${1:-12}
-kind=${2:-plain}
+kind=${2:-all}
 here=$(cd "$(dirname "$0")/../.." && pwd)
 work=$(mktemp -d)
 trap 'rm -rf "$work"' EXIT

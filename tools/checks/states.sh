@@ -4,12 +4,12 @@
 #
 #     states.sh [COUNT [KIND..]]    COUNT songs of each kind: plain, rows or all (tools/drawn_songs.py)
 #
-# With no kind named, those that are played today. The program is proved and built first.
+# With nothing named, 30 songs of the kinds rows and all each. The program is proved and built first.
 set -u
 here=$(cd "$(dirname "$0")/../.." && pwd)
-count=${1:-60}
+count=${1:-30}
 kinds=("${@:2}")
-[ ${#kinds[@]} -gt 0 ] || kinds=(plain)
+[ ${#kinds[@]} -gt 0 ] || kinds=(rows all)
 log=$(cd "$here/crates/ft_states" && rt run -- data/first.xm 8000 1 2>&1 </dev/null)
 # only a proved program is run
 if ! grep -q '^rt: running ' <<<"$log"; then
