@@ -4,10 +4,10 @@ import struct
 EMPTY = (0, 0, 0, 0, 0)
 
 
-def header(name, orders, channels, patterns, instruments, tempo=6, bpm=125, tracker=b"xmstudio", restart=0):
-    """The 336 bytes of a header with linear periods."""
+def header(name, orders, channels, patterns, instruments, tempo=6, bpm=125, tracker=b"xmstudio", restart=0, linear=True):
+    """The 336 bytes of a header, with linear or Amiga periods."""
     return (b"Extended Module: " + name.ljust(20, b"\0") + b"\x1a" + tracker.ljust(20, b"\0")
-            + struct.pack("<HIHHHHHHHH", 0x0104, 276, len(orders), restart, channels, patterns, instruments, 1, tempo, bpm)
+            + struct.pack("<HIHHHHHHHH", 0x0104, 276, len(orders), restart, channels, patterns, instruments, int(linear), tempo, bpm)
             + bytes(orders).ljust(256, b"\0"))
 
 
@@ -33,3 +33,24 @@ def instrument(name, frames, volume=64, panning=128, finetune=0, relative=0):
     sample = struct.pack("<IIIBbBBbB", len(frames), 0, 0, volume, finetune, 0, panning, relative, 0) + name.ljust(22, b"\0")
     deltas = bytes((now - before) % 256 for before, now in zip([0] + frames, frames))
     return head + sample + deltas
+
+
+def envelope(points):
+    """The 48 bytes of the points of an envelope."""
+    return b"".join(struct.pack("<HH", x, y) for x, y in points).ljust(48, b"\0")
+
+
+def voiced(name, frames, volume=64, panning=128, relative=0, wide=False, loop=(0, 0, 0), points=(), sustain=None, pan_points=(),
+           vibrato=(0, 0, 0, 0), fadeout=0):
+    """An instrument of one sample: its loop is kind, start and length in frames, an envelope is on where it has points, and
+    vibrato is kind, sweep, depth and rate."""
+    kind, start, length = loop
+    size = 2 if wide else 1
+    head = struct.pack("<I", 263) + name.ljust(22, b"\0") + struct.pack("<BHI", 0, 1, 40) + bytes(96)
+    head += envelope(points) + envelope(pan_points) + bytes([len(points), len(pan_points), sustain or 0, 0, 0, 0, 0, 0])
+    head += bytes([(1 if points else 0) + (2 if sustain is not None else 0), 1 if pan_points else 0, *vibrato])
+    head += struct.pack("<H", fadeout) + bytes(263 - 241)
+    sample = struct.pack("<IIIBbBBbB", len(frames) * size, start * size, length * size, volume, 0, kind + 16 * wide, panning, relative, 0)
+    modulus = 65536 if wide else 256
+    deltas = [(now - before) % modulus for before, now in zip([0] + list(frames), frames)]
+    return head + sample + name.ljust(22, b"\0") + b"".join(delta.to_bytes(size, "little") for delta in deltas)

@@ -87,7 +87,7 @@ expect 5 'xmstudio: output could not be written' step "$silence" no-such-folder/
 expect 5 'xmstudio: output could not be written' step "$silence" /dev/full out.ledger
 
 # copy and gen
-for song in silence first scale; do
+for song in silence first scale harbour; do
     expect 0 '' copy "songs/$song.xm" copy.xm
     cmp "$here/examples/$song.xm" copy.xm || { echo "$song.xm is copied otherwise"; failed=1; }
 done
