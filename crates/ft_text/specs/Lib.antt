@@ -1,0 +1,6 @@
+pub mod Words
+pub mod Texts
+pub mod Reading
+pub mod Values
+pub mod Edits
+pub mod Lines

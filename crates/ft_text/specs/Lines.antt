@@ -1,0 +1,65 @@
+-- What a line of a script says.
+use Rattle.std.specs.Prelude.{ℕ, zero, suc, ◌==◌, ◌||◌, Bool, false, List, [], ◌∷◌, length, nat_lt, bytes_eq, codes, Option, Some, None, Result, Ok, Err, if◌then◌else◌}
+use Rattle.ft_types.specs.declared.edit.Edit.{Edit}
+use Rattle.ft_text.specs.Reading.{Place, Reading, give, ◌>>=◌, word, is_over, behind_spaces}
+use Rattle.ft_text.specs.Edits.{u32, edit_reading}
+
+-- a word that has to be this one
+abbrev pub this_word : List ℕ → List ℕ → Option (List ℕ)
+this_word wanted w = if bytes_eq w wanted then Some w else None
+
+-- nothing but spaces follows; a further word is too many
+abbrev pub end_of_line : {A : Type 0} → A → Reading A
+end_of_line x p = if is_over p then Ok (x, p) else Err (behind_spaces p).at
+
+-- nothing more, or a `;` with others behind it
+abbrev pub others_reading : Reading (List Edit) → Reading (List Edit)
+others_reading others p = if is_over p then Ok ([], p) else (do
+  separator ← word (this_word (codes ";"))
+  others) p
+
+-- one edit, and at most so many more
+unfoldable pub edits_reading : ℕ → Reading (List Edit)
+edits_reading zero = do
+  edit ← edit_reading
+  end_of_line (edit ∷ [])
+edits_reading (suc more) = do
+  edit ← edit_reading
+  others ← others_reading (edits_reading more)
+  give (edit ∷ others)
+
+-- a time where the first word was `at`, and else none, with nothing read
+abbrev pub time_if : Place → Result (List ℕ × Place) ℕ → Result (Option ℕ × Place) ℕ
+time_if p (Ok read) = (do
+  time ← u32
+  give (Some time)) read.1
+time_if p (Err at) = Ok (None, p)
+
+abbrev pub time_reading : Reading (Option ℕ)
+time_reading p = time_if p (word (this_word (codes "at")) p)
+
+-- a time or none, and edits
+abbrev pub timed_reading : ℕ → Reading (Option ℕ × List Edit)
+timed_reading more = do
+  time ← time_reading
+  edits ← edits_reading more
+  give (time, edits)
+
+abbrev pub begins_with_hash : List ℕ → Bool
+begins_with_hash [] = false
+begins_with_hash (b ∷ rest) = b == 35
+
+abbrev pub value_only : {A : Type 0} → Result (A × Place) ℕ → Result (Option A) ℕ
+value_only (Ok read) = Ok (Some read.0)
+value_only (Err at) = Err at
+
+abbrev pub start_of : List ℕ → Place
+start_of line = record { at = 0; left = line }
+
+-- one edit and at most so many more, none in a blank line or a comment, or where the first wrong
+-- word stands: where words are missing it is the length of the line, in too long a line 4,096
+abbrev pub line_of : ℕ → List ℕ → Result (Option (Option ℕ × List Edit)) ℕ
+line_of more line =
+    if nat_lt 4096 (length line) then Err 4096
+    else if begins_with_hash line || is_over (start_of line) then Ok None
+    else value_only (timed_reading more (start_of line))
