@@ -13,7 +13,7 @@ from canonical import header, instrument, pattern
 
 CHANNELS, ROWS, PATTERNS = 32, 256, 255
 MEGABYTE = 2**20
-LONGEST = 983_040
+LONGEST = 3_932_160
 
 
 def rough(count):

@@ -7,7 +7,7 @@ import sys
 from dataclasses import dataclass
 
 NOT_XM, VERSION, SHORT, COUNT, PACKING, CELL_OVERRUN, STEREO, TOO_LONG = range(1, 9)
-MOST_FRAMES = 983_040
+MOST_FRAMES = 3_932_160
 EMPTY = (0, 0, 0, 0, 0)
 
 

@@ -131,7 +131,7 @@ fn sample_at(m: &Module, i: u8, s: u8) -> Option<&Sample>
 pub(crate) fn frames_at(m: &Module, i: u8, s: u8) -> u32
     requires { IsValid m.now }
     ensures value { result ≡ frames_at m.now i s }
-    ensures few { result ≤ 983040 }
+    ensures few { result ≤ 3932160 }
 {
     match sample_at(m, i, s) {
         Some(sample) => sample.frames.len() as u32,

@@ -38,7 +38,7 @@ fn room_of(m: &Module, i: u8, s: u8, frames: &Frames) -> Option<EditFault>
     requires few { length frames.now ≤ 256 }
     ensures { result ≡ room_for 5 most_frames (frames_at m.now i s + length frames.now) }
 {
-    room_for(5, 983_040, frames_at(m, i, s) + frames.len() as u32)
+    room_for(5, 3_932_160, frames_at(m, i, s) + frames.len() as u32)
 }
 
 /// The frames of a paste fit the sample.

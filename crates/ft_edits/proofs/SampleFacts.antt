@@ -134,7 +134,7 @@ loop_kept kind start len sample few holds v =
 
 -- frames of another number, with the loop that the sample has there
 record FitsFrames (frames : List ℤ) (sample : Sample) : Type 0 where
-  few : length frames ≤ 983040
+  few : length frames ≤ 3932160
   each : All (FitsSigned (width_of sample.wide)) frames
 
 with_loop_and_frames : (kind start len : ℕ) (frames : List ℤ) (sample : Sample) → IsValidSample sample → FitsFrames frames sample
@@ -184,7 +184,7 @@ cut_kept from to sample order v =
           (All-drop (FitsSigned (width_of sample.wide)) to sample.frames v.frames);
     })
 
-pub paste_kept : (at : ℕ) (new : List ℤ) (sample : Sample) → length sample.frames + length new ≤ 983040
+pub paste_kept : (at : ℕ) (new : List ℤ) (sample : Sample) → length sample.frames + length new ≤ 3932160
     → All (FitsSigned (width_of sample.wide)) new → IsValidSample sample → IsValidSample (with_new_frames at new sample)
 paste_kept at new sample few fits v =
     let frames = sample.frames in
@@ -213,7 +213,7 @@ same_frames frames sample same fits v = record {
   relative = v.relative;
   panning = v.panning;
   looping = subst (IsValidLoop sample.loop_kind sample.loop_start sample.loop_len) (sym same) v.looping;
-  few_frames = subst (λ n. n ≤ 983040) (sym same) v.few_frames;
+  few_frames = subst (λ n. n ≤ 3932160) (sym same) v.few_frames;
   frames = fits;
 }
 
@@ -267,7 +267,7 @@ other_width wide frames sample same fits v = record {
   relative = v.relative;
   panning = v.panning;
   looping = subst (IsValidLoop sample.loop_kind sample.loop_start sample.loop_len) (sym same) v.looping;
-  few_frames = subst (λ n. n ≤ 983040) (sym same) v.few_frames;
+  few_frames = subst (λ n. n ≤ 3932160) (sym same) v.few_frames;
   frames = fits;
 }
 

@@ -316,10 +316,10 @@ edited_valid song (edits.Cut i s from to) v f none =
     sample_kept song i s (without_frames from to) v h.some h.there (λ sample found valid. cut_kept from to sample h.order valid)
 edited_valid song (edits.Paste i s at frames) v f none =
     let h = has_frames song i s at at _ none in
-    let p = passed (nat_le (frames_at song i s + length frames) 983040) _ _ h.rest in
-    let few = most (frames_at song i s + length frames) 983040 p.0 in
+    let p = passed (nat_le (frames_at song i s + length frames) 3932160) _ _ h.rest in
+    let few = most (frames_at song i s + length frames) 3932160 p.0 in
     sample_kept song i s (with_new_frames at frames) v h.some h.there
-    (λ sample found valid. paste_kept at frames sample (subst (λ n. n + length frames ≤ 983040) (frames_of song i s sample found) few)
+    (λ sample found valid. paste_kept at frames sample (subst (λ n. n + length frames ≤ 3932160) (frames_of song i s sample found) few)
     (subst (λ (it : Option Sample). All (FitsSigned (width_of (width_in it))) frames) found (given_fit (wide_at song i s) frames f p.1)) valid)
 edited_valid song (edits.Reverse i s from to) v f none =
     let h = has_frames song i s from to _ none in

@@ -113,7 +113,7 @@ framed song i s from to causes =
 
 -- how many frames a sample has at most
 abbrev pub most_frames : ℕ
-most_frames = 983040
+most_frames = 3932160
 
 -- ---- the causes of each edit
 

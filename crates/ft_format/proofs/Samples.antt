@@ -54,7 +54,7 @@ halved : (wide : Bool) (n : ℕ) → cond wide ((size_of wide * n) / 2) (size_of
 halved true n = omega arith
 halved false n = omega arith
 
-few_bytes : (wide : Bool) (n : ℕ) → n ≤ 983040 → size_of wide * n < 256 * 256 * 256 * 256
+few_bytes : (wide : Bool) (n : ℕ) → n ≤ 3932160 → size_of wide * n < 256 * 256 * 256 * 256
 few_bytes true n le = omega (arith, le)
 few_bytes false n le = omega (arith, le)
 
@@ -147,8 +147,8 @@ sample_fits sample v =
     let k = kind_of sample.wide sample.loop_kind v.looping.kind in
     let l = loop_of sample v.looping in
     let w = written_sample sample v in
-    let start : sample.loop_start ≤ 983040 = omega (arith, l.in_start, v.few_frames) in
-    let len : sample.loop_len ≤ 983040 = omega (arith, l.in_len, v.few_frames) in
+    let start : sample.loop_start ≤ 3932160 = omega (arith, l.in_start, v.few_frames) in
+    let len : sample.loop_len ≤ 3932160 = omega (arith, l.in_len, v.few_frames) in
     record {
       header = record {
         length = few_bytes sample.wide (length sample.frames) v.few_frames;

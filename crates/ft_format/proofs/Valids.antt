@@ -141,7 +141,7 @@ sample_valid raw fits =
       relative = narrow_signed h.relative (omega (arith, fits.header.relative));
       panning = omega (arith, fits.header.panning);
       looping = record { kind = l.low; none_start = l.none_start; none_len = l.none_len; some_len = l.some_len; within = λ some. omega (arith, l.within some, f.len, count) };
-      few_frames = subst (λ (n : ℕ). n ≤ 983040) (sym (f.len ∙ count)) fits.header.few_frames;
+      few_frames = subst (λ (n : ℕ). n ≤ 3932160) (sym (f.len ∙ count)) fits.header.few_frames;
       frames = f.each;
     }
 

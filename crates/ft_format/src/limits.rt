@@ -25,7 +25,7 @@ pub const MOST_INSTRUMENTS: u16 = 128;
 pub const MOST_SAMPLES: u16 = 16;
 
 /// The most frames of a sample.
-pub const MOST_FRAMES: u32 = 983_040;
+pub const MOST_FRAMES: u32 = 3_932_160;
 
 /// The highest note that a cell has: a key off.
 pub const KEY_OFF: u8 = 97;

@@ -29,7 +29,7 @@ static MIXED: [i16; 16] = [
 /// The head of a sample that ends with its loop.
 fn looped(there_and_back: bool, start: u32, len: u32) -> SampleHead
     requires some { 1 ≤ len }
-    requires few { start + len ≤ 983040 }
+    requires few { start + len ≤ 3932160 }
     ensures { IsValidHead result }
 {
     SampleHead {

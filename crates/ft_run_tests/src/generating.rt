@@ -5,7 +5,7 @@ use ft_run::Status;
 use std::alloc::{AllocError, Global};
 
 /// The line of `gen 7`.
-const LINE: &[u8] = b"gen 7 bytes 571238 blocks 409\n";
+const LINE: &[u8] = b"gen 7 bytes 571238 blocks 425\n";
 
 /// How `gen 7 out` ends with these calls, how many bytes of the song it wrote, and how many of the
 /// line; they are fronts of the right ones.

@@ -65,9 +65,9 @@ static FAULTS: [(XmFault, &str); 9] = [
         XmFault::TooLong {
             instrument: 1,
             sample: 0,
-            frames: 983_041,
+            frames: 3_932_161,
         },
-        "song refused: fault 8 1 0 983041",
+        "song refused: fault 8 1 0 3932161",
     ),
     (XmFault::NoMemory, "song refused: fault 9"),
 ];

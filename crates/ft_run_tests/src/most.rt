@@ -17,7 +17,7 @@ const FULL: Head<'static> = Head {
 };
 
 /// The most frames of a sample.
-const LONGEST: u32 = 983_040;
+const LONGEST: u32 = 3_932_160;
 
 /// 256 rows of 32 channels. In the first row each channel has C-4, of the instruments 97 to 128 in
 /// turn, at volume 2.
@@ -43,12 +43,12 @@ fn full_patterns(alloc: Global) -> Result<Vec<u8>, AllocError> {
     Ok(song)
 }
 
-/// A song of 256 patterns and 128 instruments, and of more than 16 MB. The first 18 have the longest
+/// A song of 256 patterns and 128 instruments, and of more than 16 MB. The first 5 have the longest
 /// sample; every other has as many frames as its number says.
 fn full_song(alloc: Global) -> Result<Vec<u8>, AllocError> {
     let mut song = full_patterns(alloc)?;
     for number in 1..=128 {
-        let frames = if number <= 18 { LONGEST } else { number };
+        let frames = if number <= 5 { LONGEST } else { number };
         song.extend_from_slice(&instrument(alloc, frames, 0, 0)?)?;
     }
     Ok(song)

@@ -10,7 +10,8 @@ abbrev pub IsGivable : Edit → Type 0
 IsGivable (Paste i s at frames) = (1 ≤ length frames) × (length frames ≤ 256)
 IsGivable _ = Unit {0}
 
--- why an edit isn't appended to so many: it comes back, and is one too many exactly where there are 16
+-- why an edit isn't appended to so many: it comes back, and is one too many exactly where there
+-- are 16
 abbrev pub HasCause : BatchFault → Edit → ℕ → Type 0
 HasCause (Over back) edit count = (back ≡ edit) × (count ≡ 16)
 HasCause (NoMemory back) edit count = (back ≡ edit) × (count < 16)

@@ -1,5 +1,4 @@
 pub mod Valid
-pub mod Plain
 pub mod Views
 pub mod Work
 pub mod Blocks

@@ -18,4 +18,8 @@ words_kept None = []
 words_kept (Some kept) = words_in kept.words
 
 abbrev pub shown_of : ℕ → Module → List (Option Kept) → Shown
-shown_of version song kept = record { version = version; song = song; kept = map (owned_in version) kept }
+shown_of version song kept = record {
+  version = version;
+  song = song;
+  kept = map (owned_in version) kept;
+}

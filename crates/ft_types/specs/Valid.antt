@@ -75,8 +75,9 @@ pub record IsValidSample (sample : Sample) : Type 0 where
   pub finetune : FitsSigned w8 sample.finetune
   pub relative : FitsSigned w8 sample.relative
   pub panning : sample.panning < 256
-  pub looping : IsValidLoop sample.loop_kind sample.loop_start sample.loop_len (length sample.frames)
-  pub few_frames : length sample.frames ≤ 983040
+  pub looping : IsValidLoop sample.loop_kind sample.loop_start sample.loop_len
+      (length sample.frames)
+  pub few_frames : length sample.frames ≤ 3932160
   pub frames : All (FitsSigned (width_of sample.wide)) sample.frames
 
 abbrev pub IsZeroPoint : Point → Type 0
@@ -153,7 +154,7 @@ pub record IsValidShape (shape : Shape) : Type 0 where
 -- the head of a valid sample with frames: one that can sound
 pub record IsValidHead (head : SampleHead) : Type 0 where
   pub some_frames : 1 ≤ head.frames
-  pub few_frames : head.frames ≤ 983040
+  pub few_frames : head.frames ≤ 3932160
   pub looping : IsValidLoop head.loop_kind head.loop_start head.loop_len head.frames
   pub volume : head.volume ≤ 64
   pub panning : head.panning < 256

@@ -39,10 +39,13 @@ rows_at song pattern = rows_in (slice_get song.patterns pattern)
 abbrev pub cell_in : ℕ → Option Pattern → ℕ → ℕ → Cell
 cell_in channels None row channel = empty_cell
 cell_in channels (Some pattern) row channel =
-    if nat_lt row pattern.rows then unwrap_or (slice_get pattern.cells (row * channels + channel)) empty_cell else empty_cell
+    if nat_lt row pattern.rows
+    then unwrap_or (slice_get pattern.cells (row * channels + channel)) empty_cell
+    else empty_cell
 
 abbrev pub cell_at : Module → ℕ → ℕ → ℕ → Cell
-cell_at song pattern row channel = cell_in song.channels (slice_get song.patterns pattern) row channel
+cell_at song pattern row channel =
+    cell_in song.channels (slice_get song.patterns pattern) row channel
 
 -- the number of the pattern at an order position
 abbrev pub order_at : Module → ℕ → ℕ
@@ -58,11 +61,13 @@ instrument_at song (suc number) = slice_get song.instruments number
 -- which is 0 for the volume envelope, and 1 for that of the panning
 abbrev pub envelope_in : Option Instrument → ℕ → Option Envelope
 envelope_in None which = None
-envelope_in (Some instrument) which = Some (if which == 0 then instrument.volume else instrument.panning)
+envelope_in (Some instrument) which =
+    Some (if which == 0 then instrument.volume else instrument.panning)
 
 abbrev pub shape_in : Option Instrument → Option Shape
 shape_in None = None
-shape_in (Some instrument) = Some (record { vibrato = instrument.vibrato; fadeout = instrument.fadeout })
+shape_in (Some instrument) =
+    Some (record { vibrato = instrument.vibrato; fadeout = instrument.fadeout })
 
 -- ---- samples
 
@@ -91,15 +96,20 @@ abbrev pub sounding : ℕ → ℕ → ℕ → Option Sample → Option Owned
 sounding version instrument number None = None
 sounding version instrument number (Some sample) =
     if length sample.frames == 0 then None
-    else Some (record { origin = record { version = version; instrument = instrument; sample = number }; sample = sample })
+    else Some (record {
+      origin = record { version = version; instrument = instrument; sample = number };
+      sample = sample;
+    })
 
 -- the sample of an instrument by its number, if it has frames
 abbrev pub sample_of : ℕ → Module → ℕ → ℕ → Option Owned
-sample_of version song instrument number = sounding version instrument number (sample_in (instrument_at song instrument) number)
+sample_of version song instrument number =
+    sounding version instrument number (sample_in (instrument_at song instrument) number)
 
 -- the sample that a note, from 0, of an instrument begins in a version, if there is one with frames
 unfoldable pub begun : ℕ → Module → ℕ → ℕ → Option Owned
-begun version song instrument note = sample_of version song instrument (number_in (instrument_at song instrument) note)
+begun version song instrument note =
+    sample_of version song instrument (number_in (instrument_at song instrument) note)
 
 abbrev pub head_of : Sample → SampleHead
 head_of sample = record {
@@ -136,5 +146,6 @@ abbrev pub keeping : ℕ → Option Owned → Shown → Shown
 keeping channel owned shown = record shown { kept = set shown.kept channel owned }
 
 -- what a view may show: what it shows where something stands behind it
-abbrev pub MayShow : {V W : Type 0} → (V → W → Type 0) → (V → W → Shown) → V → Shown → Type 0
+abbrev pub MayShow : {V W : Type 0}
+    → (V → W → Type 0) → (V → W → Shown) → V → Shown → Type 0
 MayShow {W = W} shows shown view it = (w : W) × shows view w × (shown view w ≡ it)

@@ -54,4 +54,5 @@ is_near word (other ∷ words) = (body_of word == body_of other) || is_near word
 
 -- a frame in a kept word costs nothing, and one in another word of a kept word's body one step
 unfoldable pub frame_cost : ℕ → List ℕ → ℕ
-frame_cost word words = if is_kept word words then 0 else (if is_near word words then 1 else frame_bound)
+frame_cost word words =
+    if is_kept word words then 0 else (if is_near word words then 1 else frame_bound)

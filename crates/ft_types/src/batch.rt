@@ -28,7 +28,8 @@ impl Model for Batch {
 
     ghost view = { λ batch. batch.edits.items };
 
-    ghost invariant = { λ batch. (1 ≤ length batch.edits.items) × (length batch.edits.items ≤ 16) };
+    ghost invariant = { λ batch. (1 ≤ length batch.edits.items)
+        × (length batch.edits.items ≤ 16) };
 }
 
 /// Why an edit isn't appended to a batch. It comes back.

@@ -2,9 +2,9 @@
 //! envelopes, and samples.
 //!
 //! A module is a plain value. Its lists are `Items`, which contracts see as the
-//! list of their elements. Which modules are valid, and which are plain, is
-//! defined in `specs/`: `valid` and `is_plain` answer it, and `blocks` says how
-//! many blocks a valid module takes. None of the three takes memory.
+//! list of their elements. Which modules are valid is
+//! defined in `specs/`: `valid` answers it, and `blocks` says how many blocks a
+//! valid module takes. Neither takes memory.
 //!
 //! An `Edit` is a change of a module that is asked for, a `Batch` some edits that are
 //! committed together, and a `Journal` what was committed and what was refused.
@@ -24,7 +24,6 @@ mod module;
 mod module_view;
 mod no_memory;
 mod pattern;
-mod plain;
 mod sample;
 mod shelf;
 mod slots;
@@ -46,7 +45,6 @@ pub use module::{Module, Orders, SongHead};
 pub use module_view::ModuleView;
 pub use no_memory::NoMemory;
 pub use pattern::{Cell, Cells, Pattern, Patterns};
-pub use plain::is_plain;
 pub use sample::{Frames, Sample, Samples};
 pub use steps::Steps;
 pub use validity::valid;

@@ -31,7 +31,11 @@ impl<'a> ModuleView<'a> {
     pub fn new(song: &'a Module) -> ModuleView<'a>
         requires { IsValid song.now }
         ensures shown { (version : ℕ) → shown_of version result.song.now result.kept.items
-            ≡ record { version = version; song = song.now; kept = replicate song.now.channels None } }
+            ≡ record {
+              version = version;
+              song = song.now;
+              kept = replicate song.now.channels None;
+            } }
         ensures holds { map is_some result.kept.items ≡ replicate song.now.channels false }
     {
         let mut kept = ArrayVec::new();

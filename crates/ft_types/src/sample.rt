@@ -29,6 +29,6 @@ pub struct Sample {
     pub loop_start: u32,
     /// Length of the loop in frames, at least 1; 0 without a loop.
     pub loop_len: u32,
-    /// At most 983,040 frames.
+    /// At most 3,932,160 frames.
     pub frames: Frames,
 }

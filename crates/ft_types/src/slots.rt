@@ -45,13 +45,15 @@ pub fn ask(slots: &mut ArrayVec<Option<Kept>, 32>, channel: u8, place: u32) -> i
     requires kept { is_some (get_or slots.old.items channel None) ≡ true }
     ensures value { (version : ℕ) → result
         ≡ frame_of (get_or (map (owned_in version) slots.old.items) channel None) place }
-    ensures range { (h : Head) → head_of_owned (owned_in 0 (get_or slots.old.items channel None)) ≡ Some h
+    ensures range { (h : Head)
+        → head_of_owned (owned_in 0 (get_or slots.old.items channel None)) ≡ Some h
         → FitsSigned (width_of h.wide) result }
     ensures owned { (version : ℕ) → map (owned_in version) slots.new.items
         ≡ map (owned_in version) slots.old.items }
     ensures some { map is_some slots.new.items ≡ map is_some slots.old.items }
     ensures words { map words_kept slots.new.items ≡ set (map words_kept slots.old.items) channel
-        (work_of.asked (work_of.word_of place) (get_or (map words_kept slots.old.items) channel [])) }
+        (work_of.asked (work_of.word_of place)
+        (get_or (map words_kept slots.old.items) channel [])) }
     ensures many { length slots.new.items ≡ length slots.old.items }
 {
     ask_one(&mut slots.as_mut_slice()[usize::from(channel)], place)

@@ -124,7 +124,8 @@ fn has_valid_frames(frames: &[i16], wide: bool) -> bool
 /// Whether the loop of a sample has at least one frame and lies within the sample, or is none.
 fn is_valid_loop(sample: &Sample) -> bool
     ensures { IsTrue result
-        ↔ IsValidLoop sample.now.loop_kind sample.now.loop_start sample.now.loop_len (length sample.now.frames) }
+        ↔ IsValidLoop sample.now.loop_kind sample.now.loop_start sample.now.loop_len
+        (length sample.now.frames) }
 {
     if sample.loop_kind > 2 {
         return false;
@@ -155,7 +156,7 @@ fn is_valid_sample(sample: &Sample) -> bool
     if !is_valid_loop(sample) {
         return false;
     }
-    if sample.frames.len() > 983_040 {
+    if sample.frames.len() > 3_932_160 {
         return false;
     }
     has_valid_frames(sample.frames.as_slice(), sample.wide)
@@ -271,7 +272,8 @@ fn has_valid_instruments(instruments: &[Instrument]) -> bool
 
 /// Whether there are 1 to 256 orders; each may name any pattern.
 fn has_valid_orders(orders: &[u8]) -> bool
-    ensures { IsTrue result ↔ (1 ≤ length orders.now) × (length orders.now ≤ 256) × All (λ order. order < 256) orders.now }
+    ensures { IsTrue result ↔ (1 ≤ length orders.now) × (length orders.now ≤ 256)
+        × All (λ order. order < 256) orders.now }
 {
     orders.len() >= 1 && orders.len() <= 256
 }

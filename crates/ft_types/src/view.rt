@@ -58,7 +58,8 @@ pub trait SongView {
 
     /// The number of the pattern at an order position, which is below the length.
     fn order(&mut self, pos: u16) -> u8
-        requires { (w : Self.World) → shows self.old w → pos < length (shown self.old w).song.orders }
+        requires { (w : Self.World) → shows self.old w
+            → pos < length (shown self.old w).song.orders }
         ensures shows { (w : Self.World) → shows self.new w
             → shows self.old w × (shown self.new w ≡ shown self.old w) }
         ensures value { (w : Self.World) → shows self.new w
@@ -143,10 +144,12 @@ pub trait SongView {
             (begun (shown self.old w).version (shown self.old w).song instrument note)
             (shown self.old w)) }
         ensures value { (w : Self.World) → shows self.new w → result
-            ≡ head_of_owned (begun (shown self.old w).version (shown self.old w).song instrument note) }
+            ≡ head_of_owned
+            (begun (shown self.old w).version (shown self.old w).song instrument note) }
         ensures range { IfSome result IsValidHead }
         ensures holds { holds self.new ≡ set (holds self.old) channel (is_some result) }
-        ensures keeps { (c : ℕ) (h : SampleHead) → c ≢ channel → keeps self.old c h → keeps self.new c h }
+        ensures keeps { (c : ℕ) (h : SampleHead) → c ≢ channel
+            → keeps self.old c h → keeps self.new c h }
         ensures began { IfSome result (λ h. keeps self.new channel h) }
         ensures words { words self.new ≡ set (words self.old) channel [] }
         ensures work { (work self.old ≤ work self.new)
@@ -180,7 +183,8 @@ pub trait SongView {
         ensures shows { (w : Self.World) → shows self.new w → shows self.old w
             × (shown self.new w ≡ keeping channel None (shown self.old w)) }
         ensures holds { holds self.new ≡ set (holds self.old) channel false }
-        ensures keeps { (c : ℕ) (h : SampleHead) → c ≢ channel → keeps self.old c h → keeps self.new c h }
+        ensures keeps { (c : ℕ) (h : SampleHead) → c ≢ channel
+            → keeps self.old c h → keeps self.new c h }
         ensures words { words self.new ≡ set (words self.old) channel [] }
         ensures work { (work self.old ≤ work self.new)
             × (work self.new ≤ work self.old + work_of.stop_bound) }
@@ -194,15 +198,19 @@ pub trait SongView {
     ghost valid: { (v : Self) (w : Self.World) → shows v w → IsValid (shown v w).song };
 
     // It has the channels of that song, and as many samples may be kept.
-    ghost channels: { (v : Self) (w : Self.World) → shows v w → (shown v w).song.channels ≡ length (holds v) };
+    ghost channels: { (v : Self) (w : Self.World) → shows v w
+        → (shown v w).song.channels ≡ length (holds v) };
 
-    ghost wide: { (v : Self) (w : Self.World) → shows v w → length (shown v w).kept ≡ length (holds v) };
+    ghost wide: { (v : Self) (w : Self.World) → shows v w
+        → length (shown v w).kept ≡ length (holds v) };
 
     ghost worded: { (v : Self) → length (words v) ≡ length (holds v) };
 
     // A kept sample is of its head.
-    ghost of_head: { (v : Self) (w : Self.World) (c : ℕ) (h : SampleHead) → shows v w → keeps v c h
+    ghost of_head: { (v : Self) (w : Self.World) (c : ℕ) (h : SampleHead)
+        → shows v w → keeps v c h
         → head_of_owned (get_or (shown v w).kept c None) ≡ Some h };
 
-    ghost held: { (v : Self) (c : ℕ) (h : SampleHead) → keeps v c h → get_or (holds v) c false ≡ true };
+    ghost held: { (v : Self) (c : ℕ) (h : SampleHead) → keeps v c h
+        → get_or (holds v) c false ≡ true };
 }

@@ -3,7 +3,7 @@
 /// A sample without its name and frames.
 #[derive(Clone, Copy, Debug, Default, PartialEq, Eq)]
 pub struct SampleHead {
-    /// Number of frames, at most 983,040.
+    /// Number of frames, at most 3,932,160.
     pub frames: u32,
     /// Whether frames have 16 bits.
     pub wide: bool,

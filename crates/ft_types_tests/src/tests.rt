@@ -1,6 +1,6 @@
 use ft_types::{
     Cell, Envelope, Instrument, Items, Module, Orders, Pattern, Point, Sample, Vibrato, blocks,
-    is_plain, valid,
+    valid,
 };
 use std::alloc::Global;
 use std::test::Fail;
@@ -101,15 +101,6 @@ fn a_silent_song_is_valid_and_has_one_block(rt: HostRuntime) -> Result<(), Fail>
 }
 
 #[test]
-fn amiga_periods_are_not_plain(rt: HostRuntime) -> Result<(), Fail> {
-    let mut song = silent_song(rt.alloc())?;
-    assert!(rt; !is_plain(&song));
-    song.linear = true;
-    assert!(rt; is_plain(&song));
-    Ok(())
-}
-
-#[test]
 fn a_row_without_ticks_is_not_valid(rt: HostRuntime) -> Result<(), Fail> {
     let mut song = silent_song(rt.alloc())?;
     song.tempo = 0;
@@ -117,12 +108,24 @@ fn a_row_without_ticks_is_not_valid(rt: HostRuntime) -> Result<(), Fail> {
     Ok(())
 }
 
+/// Frames of the only sample, and the blocks of the song.
+const BLOCKS: [(usize, u32); 9] = [
+    (0, 5),
+    (4, 7),
+    (400, 7),
+    (1_024, 7),
+    (1_025, 8),
+    (983_041, 967),
+    (1_048_576, 1_030),
+    (1_048_577, 1_032),
+    (1_049_600, 1_032),
+];
+
 #[test]
-fn a_block_that_is_begun_counts(rt: HostRuntime) -> Result<(), Fail> {
-    for (frames, count) in [(0, 5), (4, 6), (400, 6), (1024, 6), (1025, 7)] {
+fn blocks_of_frames_and_their_indexes_count_as_they_are_begun(rt: HostRuntime) -> Result<(), Fail> {
+    for (frames, count) in BLOCKS {
         let song = short_song(rt.alloc(), frames)?;
         assert!(rt; valid(&song), "{frames} frames");
-        assert!(rt; is_plain(&song), "{frames} frames");
         assert_eq!(rt; blocks(&song), count, "{frames} frames");
     }
     Ok(())

@@ -133,7 +133,7 @@ whole_law = seen_law (λ (x : SampleHeader × List ℕ). x.0) (λ h. (h, [])) (i
     ))
 
 abbrev too_long : SampleHeader → Bool
-too_long header = nat_lt 983040 (frame_count header)
+too_long header = nat_lt 3932160 (frame_count header)
 
 header_law : (instrument number : ℕ) → Lawful (sample_header_at instrument number) sample_header_text SampleHeaderFits
 unfolding sample_header_at
@@ -152,11 +152,11 @@ header_law instrument number = refit_law _ sample_header_text (Passes (Passes Fi
       skipped = a.1.1.1.1.1.1.1.1.0;
       name = name_fits x a;
       mono = f.0.1;
-      few_frames = fits_limit 983040 (frame_count x) f.1;
+      few_frames = fits_limit 3932160 (frame_count x) f.1;
     })
     (λ x g. (
       ((g.length, (g.loop_start, (g.loop_len, (g.volume, (g.finetune, (g.kind, (g.panning, (g.relative, (g.skipped, g.name))))))))), g.mono),
-      not_lt 983040 (frame_count x) g.few_frames,
+      not_lt 3932160 (frame_count x) g.few_frames,
     ))
 
 -- ---- the data

@@ -100,37 +100,37 @@ static REFUSALS: [(&[Step], XmFault); 72] = [
     ),
     // The limit of a sample counts frames: its length and type, whose data would need so many bytes.
     (
-        &[Put(738, 742, &[1, 0, 15, 0]), Put(752, 753, &[0])],
+        &[Put(738, 742, &[1, 0, 60, 0]), Put(752, 753, &[0])],
         TooLong {
             instrument: 1,
             sample: 0,
-            frames: 983_041,
+            frames: 3_932_161,
         },
     ),
     (
-        &[Put(738, 742, &[0, 0, 15, 0]), Put(752, 753, &[0])],
+        &[Put(738, 742, &[0, 0, 60, 0]), Put(752, 753, &[0])],
         Short {
             at: 778,
-            need: 983_040,
+            need: 3_932_160,
         },
     ),
     (
-        &[Put(738, 742, &[2, 0, 30, 0]), Put(752, 753, &[16])],
+        &[Put(738, 742, &[2, 0, 120, 0]), Put(752, 753, &[16])],
         TooLong {
             instrument: 1,
             sample: 0,
-            frames: 983_041,
+            frames: 3_932_161,
         },
     ),
     (
-        &[Put(738, 742, &[1, 0, 30, 0]), Put(752, 753, &[16])],
+        &[Put(738, 742, &[1, 0, 120, 0]), Put(752, 753, &[16])],
         Short {
             at: 778,
-            need: 1_966_081,
+            need: 7_864_321,
         },
     ),
     (
-        &[Put(738, 742, &[1, 0, 15, 0]), Put(752, 753, &[32])],
+        &[Put(738, 742, &[1, 0, 60, 0]), Put(752, 753, &[32])],
         Stereo {
             instrument: 1,
             sample: 0,
@@ -206,12 +206,12 @@ static REFUSALS: [(&[Step], XmFault); 72] = [
         &[
             Put(72, 73, &[2]),
             Again(475, 782, 782),
-            Put(1047, 1048, &[15]),
+            Put(1047, 1048, &[60]),
         ],
         TooLong {
             instrument: 2,
             sample: 0,
-            frames: 983_044,
+            frames: 3_932_164,
         },
     ),
     // The second pattern is the first one's copy, from 475 on, with another byte; it is named by 1.

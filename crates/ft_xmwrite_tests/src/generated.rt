@@ -78,10 +78,10 @@ fn has_parts(song: &Module) -> bool {
             .all(|instrument| has_sample(instrument))
 }
 
-/// Whether the song of a number is valid, has 409 blocks, its header and its parts.
+/// Whether the song of a number is valid, has 425 blocks, its header and its parts.
 fn is_whole(alloc: Global, number: u32) -> Result<bool, AllocError> {
     let song = song(alloc, number)?;
-    Ok(valid(&song) && blocks(&song) == 409 && has_header(&song) && has_parts(&song))
+    Ok(valid(&song) && blocks(&song) == 425 && has_header(&song) && has_parts(&song))
 }
 
 /// Whether a cell of a song has these bytes.

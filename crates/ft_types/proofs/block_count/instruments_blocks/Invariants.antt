@@ -6,5 +6,5 @@ use Rattle.ft_types.proofs.block_count.instruments_blocks.Given as goal
 abbrev pub invariant-loop-instrument : goal.invariant-loop-instrument
 invariant-loop-instrument l = record {
   value : l.blocks ≡ sum_by instrument_blocks (take l.instrument-index l.instruments);
-  most : l.blocks ≤ 15377 * l.instrument-index;
+  most : l.blocks ≤ 61521 * l.instrument-index;
 }

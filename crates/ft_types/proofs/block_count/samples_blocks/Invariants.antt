@@ -6,5 +6,5 @@ use Rattle.ft_types.proofs.block_count.samples_blocks.Given as goal
 abbrev pub invariant-loop-sample : goal.invariant-loop-sample
 invariant-loop-sample l = record {
   value : l.blocks ≡ sum_by sample_blocks (take l.sample-index l.samples);
-  most : l.blocks ≤ 961 * l.sample-index;
+  most : l.blocks ≤ 3845 * l.sample-index;
 }
