@@ -38,13 +38,13 @@ fn start_often<V: SongView>(
     }
 }
 
-/// Makes later ticks of a channel, N times, in turn the first to the fifth.
+/// Makes later ticks of a channel, N times, in turn the first to the fourth.
 fn tick_often<V: SongView>(view: &mut V, channel: &mut Channel, control: &mut Control, rounds: u32)
     requires wide { 0 < length (V.holds view.old) }
     requires range { IsChannelInRange 0 channel.old }
 {
     for done in 0..rounds {
-        row_tick(view, channel, control, 0, (done % 5 + 1) as u16);
+        row_tick(view, channel, control, 0, (done % 4 + 1) as u16);
     }
 }
 

@@ -10,9 +10,9 @@ use Rattle.ft_replay.specs.State.{Lane, Turn}
 use Rattle.ft_replay.specs.declared.effect.Effect.TheVariants.{Nothing}
 use Rattle.ft_replay.specs.declared.effect.VolumeEffect.TheVariants as column
 use Rattle.ft_replay.specs.Effects.{effect_in, effect_of, digit_effect, volume_effect_of}
-use Rattle.ft_replay.specs.Rules.{slide_tick, swing_tick, control_tick}
-use Rattle.ft_replay.specs.VolumeColumn.{volume_tick_of}
-use Rattle.ft_replay.specs.Row.{with_channel, with_offset, is_delayed, strike_of, delayed_strike, effect_start_of, effect_tick_of, row_start_of, row_tick_of}
+use Rattle.ft_replay.specs.Rules.{slide_start, setting_start, slide_tick, swing_tick, control_tick, control_start, loop_start}
+use Rattle.ft_replay.specs.VolumeColumn.{volume_start_of, volume_tick_of}
+use Rattle.ft_replay.specs.Row.{with_channel, with_offset, is_delayed, strike_of, delayed_strike, effect_start_of, effect_tick_of, row_start_of, row_tick_of, note_of, after_note}
 use Rattle.ft_replay.specs.Standing.{lane_of, turn_of, Became, Turned}
 use Rattle.ft_replay.specs.Calls.{Turns, TurnsShown}
 use Rattle.ft_channel.proofs.Starts.{keeping_same}
@@ -124,3 +124,31 @@ by_nothing shown c u channel control e v = rw e (rw v (record { lane = record { 
 pub still_turned : (shown : Shown) (c u : ℕ) (channel : Channel) (control : Control) → channel.cell.volume ≡ 0 → channel.cell.effect ≡ 0 → channel.cell.parameter ≡ 0
     → Turned c (row_tick_of shown.version shown.song c u (turn_of c shown channel control)) shown shown channel control
 still_turned shown c u channel control v e p = by_nothing shown c u channel control (still_effect channel.cell e p) (still_volume channel.cell v)
+
+-- an empty cell turns nothing at the start of its row
+unstruck : (version : ℕ) (song : Module) (c : ℕ) (cell : Cell) (lane : Lane) → cell.note ≡ 0 → cell.instrument ≡ 0
+    → volume_effect_of cell.volume ≡ column.Nothing → strike_of version song c cell lane ≡ lane
+unfolding strike_of note_of after_note volume_start_of
+unstruck version song c cell lane n i v = rw n (rw i (rw v refl))
+
+unstarted : (version : ℕ) (song : Module) (c : ℕ) (cell : Cell) (turn : Turn) → cell.note ≡ 0 → cell.instrument ≡ 0
+    → volume_effect_of cell.volume ≡ column.Nothing → effect_in cell ≡ Nothing → row_start_of version song c cell turn ≡ turn
+unfolding row_start_of effect_start_of slide_start setting_start control_start loop_start
+unstarted version song c cell turn n i v e =
+    rw e (ap (λ (lane : Lane). record { lane = lane; control = turn.control }) (unstruck version song c cell turn.lane n i v))
+
+pub empty_turned : (shown : Shown) (c : ℕ) (cell : Cell) (channel : Channel) (control : Control) → cell.note ≡ 0 → cell.instrument ≡ 0
+    → cell.volume ≡ 0 → cell.effect ≡ 0 → cell.parameter ≡ 0
+    → Turned c (row_start_of shown.version shown.song c cell (turn_of c shown channel control)) shown shown channel control
+empty_turned shown c cell channel control n i v e p =
+    subst (λ (t : Turn). Turned c t shown shown channel control)
+    (sym (unstarted shown.version shown.song c cell (turn_of c shown channel control) n i (still_volume cell v) (still_effect cell e p)))
+    (record { lane = record { same = refl; kept = keeping_same c shown }; same = refl })
+
+-- a cell without note, instrument and volume byte strikes nothing
+pub silent_became : (shown : Shown) (c : ℕ) (cell : Cell) (channel : Channel) → cell.note ≡ 0 → cell.instrument ≡ 0 → cell.volume ≡ 0
+    → Became c (strike_of shown.version shown.song c cell (lane_of c shown channel)) shown shown channel
+silent_became shown c cell channel n i v =
+    subst (λ (lane : Lane). Became c lane shown shown channel)
+    (sym (unstruck shown.version shown.song c cell (lane_of c shown channel) n i (still_volume cell v)))
+    (record { same = refl; kept = keeping_same c shown })

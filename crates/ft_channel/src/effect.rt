@@ -11,9 +11,8 @@ ghost use Rattle.ft_channel.specs.Looping.{Loops};
 ghost use Rattle.ft_channel.specs.Staying.{Stays, StaysInPlace, StaysTimed};
 
 use crate::key_off::key_off;
-use crate::rules::{slide_start, slide_tick, swing_tick};
+use crate::rules::{channel_start, channel_tick};
 use crate::sequence::{control_start, control_tick, loop_start};
-use crate::settings::setting_start;
 use ft_replay::{Channel, Control, Effect};
 use ft_types::SongView;
 
@@ -62,8 +61,7 @@ pub fn effect_start<V: SongView>(
         × (V.work view.new ≤ V.work view.old + work_of.envelope_bound) }
     ensures same { V.same view.old view.new }
 {
-    slide_start(channel, effect);
-    setting_start(channel, effect);
+    channel_start(channel, effect);
     key_off_at(view, channel, 0, effect);
     control_start(control, c, effect);
     loop_start(channel, control, c, effect);
@@ -95,8 +93,7 @@ pub fn effect_tick<V: SongView>(
         × (V.work view.new ≤ V.work view.old + work_of.envelope_bound) }
     ensures same { V.same view.old view.new }
 {
-    slide_tick(channel, effect);
-    swing_tick(channel, u, effect);
+    channel_tick(channel, u, effect);
     key_off_at(view, channel, u, effect);
     control_tick(control, channel, effect);
 }

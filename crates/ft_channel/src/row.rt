@@ -16,9 +16,9 @@ use crate::volume::{volume_start, volume_tick};
 use ft_replay::{Channel, Control, Effect, VolumeEffect};
 use ft_types::{Cell, SongView};
 
-/// The instrument byte, the note, what they set anew, and the volume byte.
+/// The instrument byte, the note, what they set anew, and the volume byte, of any cell.
 #[tactic(auto, unfolding(ft_replay::specs::Row::strike_of))]
-fn strike<V: SongView>(view: &mut V, ch: &mut Channel, c: u8, cell: Cell, effect: Effect)
+fn strike_cell<V: SongView>(view: &mut V, ch: &mut Channel, c: u8, cell: Cell, effect: Effect)
     requires effect { effect ≡ effects.effect_in cell }
     requires digits { effects.IsEffect effect }
     requires channel { c < length (V.holds view.old) }
@@ -39,6 +39,49 @@ fn strike<V: SongView>(view: &mut V, ch: &mut Channel, c: u8, cell: Cell, effect
     volume_start(ch, VolumeEffect::of(cell.volume));
 }
 
+/// Whether a cell has no note, no instrument and no volume byte.
+fn is_silent(cell: Cell) -> bool
+    ensures { result ≡ true → (cell.note ≡ 0) × ((cell.instrument ≡ 0) × (cell.volume ≡ 0)) }
+{
+    cell.note == 0 && cell.instrument == 0 && cell.volume == 0
+}
+
+/// The cell again. The copy lies in memory where a note needs it there, and nowhere else.
+fn same_cell(cell: Cell) -> Cell
+    ensures { result ≡ cell }
+{
+    Cell {
+        note: cell.note,
+        instrument: cell.instrument,
+        volume: cell.volume,
+        effect: cell.effect,
+        parameter: cell.parameter,
+    }
+}
+
+/// The same, where a cell without a note, an instrument and a volume byte costs next to nothing.
+#[inline(always)]
+fn strike<V: SongView>(view: &mut V, ch: &mut Channel, c: u8, cell: Cell, effect: Effect)
+    requires effect { effect ≡ effects.effect_in cell }
+    requires digits { effects.IsEffect effect }
+    requires channel { c < length (V.holds view.old) }
+    requires range { IsChannelInRange c ch.old }
+    ensures changed { calls.Changes V.shows V.shown
+        (λ version song. row.strike_of version song c cell) c view.old view.new ch.old ch.new }
+    ensures keeps { calls.KeepsFor c (V.keeps view.old) (V.keeps view.new)
+        (V.holds view.old) (V.holds view.new) ch.old.voice ch.new.voice }
+    ensures range { IsChannelInRange c ch.new }
+    ensures words { WordsFor c (V.words view.old) (V.words view.new) }
+    ensures work { (V.work view.old ≤ V.work view.new)
+        × (V.work view.new ≤ V.work view.old + note_bound) }
+    ensures same { V.same view.old view.new }
+{
+    if is_silent(cell) {
+        return;
+    }
+    strike_cell(view, ch, c, same_cell(cell), effect);
+}
+
 /// Effect 9 is remembered before the note begins.
 fn remember_offset(ch: &mut Channel, effect: Effect)
     ensures value { ch.new ≡ row.with_offset effect ch.old }
@@ -48,6 +91,21 @@ fn remember_offset(ch: &mut Channel, effect: Effect)
         Effect::SampleOffset { pages } => remember(ch, SAMPLE_OFFSET, pages),
         _ => {}
     }
+}
+
+/// Whether a cell says nothing of later ticks: it has neither a volume byte nor an effect.
+fn is_still(cell: Cell) -> bool
+    ensures { result ≡ true → (cell.volume ≡ 0) × ((cell.effect ≡ 0) × (cell.parameter ≡ 0)) }
+{
+    cell.volume == 0 && cell.effect == 0 && cell.parameter == 0
+}
+
+/// Whether a cell says nothing at all.
+fn is_empty(cell: Cell) -> bool
+    ensures { result ≡ true → (cell.note ≡ 0) × ((cell.instrument ≡ 0)
+        × ((cell.volume ≡ 0) × ((cell.effect ≡ 0) × (cell.parameter ≡ 0)))) }
+{
+    cell.note == 0 && cell.instrument == 0 && is_still(cell)
 }
 
 /// Whether the effect of a row delays its note.
@@ -82,6 +140,9 @@ pub fn row_start<V: SongView>(view: &mut V, ch: &mut Channel, ctl: &mut Control,
         × (V.work view.new ≤ V.work view.old + row_bound) }
     ensures same { V.same view.old view.new }
 {
+    if is_empty(cell) {
+        return;
+    }
     let effect = Effect::of(cell);
     if is_delayed(effect) {
         return;
@@ -116,16 +177,11 @@ fn strike_late<V: SongView>(
     ensures same { V.same view.old view.new }
 {
     match effect {
-        Effect::NoteDelay { tick } if u16::from(tick) == u => strike(view, ch, c, cell, effect),
+        Effect::NoteDelay { tick } if u16::from(tick) == u => {
+            strike(view, ch, c, cell, Effect::of(cell))
+        }
         _ => {}
     }
-}
-
-/// Whether a cell says nothing of later ticks: it has neither a volume byte nor an effect.
-fn is_still(cell: Cell) -> bool
-    ensures { result ≡ true → (cell.volume ≡ 0) × ((cell.effect ≡ 0) × (cell.parameter ≡ 0)) }
-{
-    cell.volume == 0 && cell.effect == 0 && cell.parameter == 0
 }
 
 /// Tick `u`, from 1, of the row on channel `c`, from 0, whose cell the channel has.

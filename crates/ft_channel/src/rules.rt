@@ -13,33 +13,53 @@ use crate::fine::{
 use crate::memory as place;
 use crate::memory::remember;
 use crate::retriggers::{cut_note, go_on_tremor, retrigger, retrigger_many};
+use crate::settings::{
+    remember_retrigger, set_envelope_positions, set_glissando, set_tremolo, set_tremolo_kind,
+    set_tremor, set_vibrato, set_vibrato_kind,
+};
 use crate::slides::{
     lower_period, raise_period, set_tone_speed, slide_panning, slide_volume, tone_portamento,
 };
 use crate::swings::{step_arpeggio, tremble, vibrate};
+use crate::volume::{set_panning, set_volume};
 use ft_replay::{Channel, Effect};
 
-/// What a sliding effect does at the start of a row: it remembers, or slides once.
-#[tactic(auto, unfolding(ft_replay::specs::Rules::slide_start))]
-pub fn slide_start(channel: &mut Channel, effect: Effect)
-    ensures value { channel.new ≡ rules.slide_start effect channel.old }
+/// What an effect does to its channel at the start of a row: it remembers, slides once or sets.
+#[tactic(auto, unfolding(ft_replay::specs::Rules::slide_start, ft_replay::specs::Rules::setting_start))]
+pub fn channel_start(channel: &mut Channel, effect: Effect)
+    requires { IsEffect effect }
+    ensures value { channel.new
+        ≡ rules.setting_start effect (rules.slide_start effect channel.old) }
     ensures stays { Stays channel.old channel.new }
 {
     match effect {
         Effect::PortamentoUp { speed } => remember(channel, place::PORTAMENTO_UP, speed),
         Effect::PortamentoDown { speed } => remember(channel, place::PORTAMENTO_DOWN, speed),
         Effect::TonePortamento { speed } => set_tone_speed(channel, speed),
+        Effect::Vibrato { speed, depth } => set_vibrato(channel, speed, depth),
         Effect::TonePortamentoSlide { change } => remember(channel, place::VOLUME_SLIDE, change),
         Effect::VibratoSlide { change } => remember(channel, place::VOLUME_SLIDE, change),
+        Effect::Tremolo { speed, depth } => set_tremolo(channel, speed, depth),
+        Effect::Panning { panning } => set_panning(channel, panning),
         Effect::VolumeSlide { change } => remember(channel, place::VOLUME_SLIDE, change),
-        Effect::GlobalSlide { change } => remember(channel, place::GLOBAL_SLIDE, change),
-        Effect::PanningSlide { change } => remember(channel, place::PANNING_SLIDE, change),
+        Effect::Volume { volume } => set_volume(channel, volume.min(64)),
         Effect::FinePortamentoUp { speed } => fine_portamento_up(channel, speed),
         Effect::FinePortamentoDown { speed } => fine_portamento_down(channel, speed),
-        Effect::ExtraFineUp { speed } => extra_fine_up(channel, speed),
-        Effect::ExtraFineDown { speed } => extra_fine_down(channel, speed),
+        Effect::Glissando { on } => set_glissando(channel, on),
+        Effect::VibratoWave { kind } => set_vibrato_kind(channel, kind),
+        Effect::TremoloWave { kind } => set_tremolo_kind(channel, kind),
         Effect::FineVolumeUp { change } => fine_volume_up(channel, change),
         Effect::FineVolumeDown { change } => fine_volume_down(channel, change),
+        Effect::NoteCut { tick } => cut_note(channel, 0, tick),
+        Effect::GlobalSlide { change } => remember(channel, place::GLOBAL_SLIDE, change),
+        Effect::EnvelopePosition { position } => set_envelope_positions(channel, position),
+        Effect::PanningSlide { change } => remember(channel, place::PANNING_SLIDE, change),
+        Effect::MultiRetrigger { change, interval } => {
+            remember_retrigger(channel, change, interval)
+        }
+        Effect::Tremor { times } => set_tremor(channel, times),
+        Effect::ExtraFineUp { speed } => extra_fine_up(channel, speed),
+        Effect::ExtraFineDown { speed } => extra_fine_down(channel, speed),
         _ => {}
     }
 }
@@ -63,7 +83,6 @@ fn portamento_down(channel: &mut Channel)
 }
 
 /// A tone portamento with a volume slide.
-
 fn tone_portamento_slide(channel: &mut Channel)
     requires { IsMemoryInRange channel.old }
     ensures value { channel.new ≡ rules.tone_portamento_slide channel.old }
@@ -74,7 +93,6 @@ fn tone_portamento_slide(channel: &mut Channel)
 }
 
 /// A vibrato with a volume slide.
-
 fn vibrato_slide(channel: &mut Channel)
     requires { IsMemoryInRange channel.old }
     ensures value { channel.new ≡ rules.vibrato_slide channel.old }
@@ -84,11 +102,13 @@ fn vibrato_slide(channel: &mut Channel)
     slide_volume(channel);
 }
 
-/// What a sliding effect does in a later tick.
-#[tactic(auto, unfolding(ft_replay::specs::Rules::slide_tick))]
-pub fn slide_tick(channel: &mut Channel, effect: Effect)
-    requires { IsMemoryInRange channel.old }
-    ensures value { channel.new ≡ rules.slide_tick effect channel.old }
+/// What an effect does to its channel in later tick `u`: it slides, swings or begins anew.
+#[tactic(auto, unfolding(ft_replay::specs::Rules::slide_tick, ft_replay::specs::Rules::swing_tick))]
+pub fn channel_tick(channel: &mut Channel, u: u16, effect: Effect)
+    requires effect { IsEffect effect }
+    requires memory { IsMemoryInRange channel.old }
+    ensures value { channel.new
+        ≡ rules.swing_tick u effect (rules.slide_tick effect channel.old) }
     ensures stays { Stays channel.old channel.new }
 {
     match effect {
@@ -99,19 +119,6 @@ pub fn slide_tick(channel: &mut Channel, effect: Effect)
         Effect::VibratoSlide { .. } => vibrato_slide(channel),
         Effect::VolumeSlide { .. } => slide_volume(channel),
         Effect::PanningSlide { .. } => slide_panning(channel),
-        _ => {}
-    }
-}
-
-/// What an effect that swings or begins anew does in later tick `u`.
-#[tactic(auto, unfolding(ft_replay::specs::Rules::swing_tick))]
-pub fn swing_tick(channel: &mut Channel, u: u16, effect: Effect)
-    requires effect { IsEffect effect }
-    requires memory { IsMemoryInRange channel.old }
-    ensures value { channel.new ≡ rules.swing_tick u effect channel.old }
-    ensures stays { Stays channel.old channel.new }
-{
-    match effect {
         Effect::Arpeggio { x, y } => step_arpeggio(channel, u, x, y),
         Effect::Vibrato { .. } => vibrate(channel),
         Effect::Tremolo { .. } => tremble(channel),

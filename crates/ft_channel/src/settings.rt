@@ -1,19 +1,17 @@
 //! Effects that set something of their channel, at the start of a row.
 
 ghost use Rattle.std.specs.Prelude.{◌≡◌, ◌≤◌};
-ghost use Rattle.ft_replay.specs.Effects.{IsEffect};
 ghost use Rattle.ft_replay.specs.Rules as rules;
 ghost use Rattle.ft_channel.specs.Staying.{Stays};
 
 use crate::memory as place;
 use crate::memory::remember;
-use crate::retriggers::{cut_note, start_tremor};
+use crate::retriggers::start_tremor;
 use crate::swings::{set_tremolo_depth, set_tremolo_speed, set_vibrato_depth, set_vibrato_speed};
-use crate::volume::{set_panning, set_volume};
-use ft_replay::{Channel, Effect};
+use ft_replay::Channel;
 
 /// E3: whether tone portamentos are heard in semitones.
-fn set_glissando(channel: &mut Channel, on: bool)
+pub fn set_glissando(channel: &mut Channel, on: bool)
     ensures value { channel.new ≡ rules.with_glissando on channel.old }
     ensures stays { Stays channel.old channel.new }
 {
@@ -21,7 +19,7 @@ fn set_glissando(channel: &mut Channel, on: bool)
 }
 
 /// E4: the kind of the vibrato's wave.
-fn set_vibrato_kind(channel: &mut Channel, kind: u8)
+pub fn set_vibrato_kind(channel: &mut Channel, kind: u8)
     requires { kind ≤ 7 }
     ensures value { channel.new ≡ rules.with_vibrato_kind kind channel.old }
     ensures stays { Stays channel.old channel.new }
@@ -30,7 +28,7 @@ fn set_vibrato_kind(channel: &mut Channel, kind: u8)
 }
 
 /// E7: the kind of the tremolo's wave.
-fn set_tremolo_kind(channel: &mut Channel, kind: u8)
+pub fn set_tremolo_kind(channel: &mut Channel, kind: u8)
     requires { kind ≤ 7 }
     ensures value { channel.new ≡ rules.with_tremolo_kind kind channel.old }
     ensures stays { Stays channel.old channel.new }
@@ -39,7 +37,7 @@ fn set_tremolo_kind(channel: &mut Channel, kind: u8)
 }
 
 /// L: the position of both envelopes.
-fn set_envelope_positions(channel: &mut Channel, position: u8)
+pub fn set_envelope_positions(channel: &mut Channel, position: u8)
     ensures value { channel.new ≡ rules.with_envelope_positions position channel.old }
     ensures stays { Stays channel.old channel.new }
 {
@@ -48,8 +46,7 @@ fn set_envelope_positions(channel: &mut Channel, position: u8)
 }
 
 /// R: both digits are remembered.
-
-fn remember_retrigger(channel: &mut Channel, change: u8, interval: u8)
+pub fn remember_retrigger(channel: &mut Channel, change: u8, interval: u8)
     ensures value { channel.new ≡ rules.with_retrigger change interval channel.old }
     ensures stays { Stays channel.old channel.new }
 {
@@ -58,8 +55,7 @@ fn remember_retrigger(channel: &mut Channel, change: u8, interval: u8)
 }
 
 /// T: the digits are remembered, and the voice is muted where its turn is over.
-
-fn set_tremor(channel: &mut Channel, times: u8)
+pub fn set_tremor(channel: &mut Channel, times: u8)
     ensures value { channel.new ≡ rules.with_tremor times channel.old }
     ensures stays { Stays channel.old channel.new }
 {
@@ -68,8 +64,7 @@ fn set_tremor(channel: &mut Channel, times: u8)
 }
 
 /// 4: digits other than 0 become the speed and the depth of the vibrato.
-
-fn set_vibrato(channel: &mut Channel, speed: u8, depth: u8)
+pub fn set_vibrato(channel: &mut Channel, speed: u8, depth: u8)
     requires speed { speed ≤ 15 }
     requires depth { depth ≤ 15 }
     ensures value { channel.new ≡ rules.with_vibrato speed depth channel.old }
@@ -80,7 +75,7 @@ fn set_vibrato(channel: &mut Channel, speed: u8, depth: u8)
 }
 
 /// 7: digits other than 0 become the speed and the depth of the tremolo.
-fn set_tremolo(channel: &mut Channel, speed: u8, depth: u8)
+pub fn set_tremolo(channel: &mut Channel, speed: u8, depth: u8)
     requires speed { speed ≤ 15 }
     requires depth { depth ≤ 15 }
     ensures value { channel.new ≡ rules.with_tremolo speed depth channel.old }
@@ -88,29 +83,4 @@ fn set_tremolo(channel: &mut Channel, speed: u8, depth: u8)
 {
     set_tremolo_speed(channel, speed);
     set_tremolo_depth(channel, depth);
-}
-
-/// What an effect sets of its channel.
-#[tactic(auto, unfolding(ft_replay::specs::Rules::setting_start))]
-pub fn setting_start(channel: &mut Channel, effect: Effect)
-    requires { IsEffect effect }
-    ensures value { channel.new ≡ rules.setting_start effect channel.old }
-    ensures stays { Stays channel.old channel.new }
-{
-    match effect {
-        Effect::Vibrato { speed, depth } => set_vibrato(channel, speed, depth),
-        Effect::Tremolo { speed, depth } => set_tremolo(channel, speed, depth),
-        Effect::Panning { panning } => set_panning(channel, panning),
-        Effect::Volume { volume } => set_volume(channel, volume.min(64)),
-        Effect::Glissando { on } => set_glissando(channel, on),
-        Effect::VibratoWave { kind } => set_vibrato_kind(channel, kind),
-        Effect::TremoloWave { kind } => set_tremolo_kind(channel, kind),
-        Effect::NoteCut { tick } => cut_note(channel, 0, tick),
-        Effect::EnvelopePosition { position } => set_envelope_positions(channel, position),
-        Effect::MultiRetrigger { change, interval } => {
-            remember_retrigger(channel, change, interval)
-        }
-        Effect::Tremor { times } => set_tremor(channel, times),
-        _ => {}
-    }
 }

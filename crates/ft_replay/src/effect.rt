@@ -121,6 +121,7 @@ pub enum VolumeEffect {
 }
 
 /// The effect E of a digit.
+#[inline(always)]
 #[tactic(auto, unfolding(crate::specs::Effects::extended))]
 fn extended(digit: u8, y: u8) -> Effect
     requires { y ≤ 15 }
@@ -192,6 +193,7 @@ fn decimal_row(parameter: u8) -> u8
 }
 
 /// The effects 0 to F.
+#[inline(always)]
 #[tactic(auto, unfolding(crate::specs::Effects::digit_effect))]
 fn digit_effect(number: u8, parameter: u8) -> Effect
     requires { number ≤ 15 }
@@ -223,6 +225,7 @@ fn digit_effect(number: u8, parameter: u8) -> Effect
 }
 
 /// The effects G to X.
+#[inline(always)]
 #[tactic(auto, unfolding(crate::specs::Effects::letter_effect))]
 fn letter_effect(number: u8, parameter: u8) -> Effect
     ensures value { result ≡ effects.letter_effect number parameter }
@@ -250,6 +253,7 @@ fn letter_effect(number: u8, parameter: u8) -> Effect
 
 impl Effect {
     /// The effect of a cell. All cells have one.
+    #[inline(always)]
     #[tactic(auto, unfolding(crate::specs::Effects::effect_of))]
     pub fn of(cell: Cell) -> Effect
         ensures value { result ≡ effects.effect_in cell }
@@ -265,6 +269,7 @@ impl Effect {
 
 impl VolumeEffect {
     /// The effect of a volume byte. All bytes have one.
+    #[inline(always)]
     #[tactic(auto, unfolding(crate::specs::Effects::volume_effect_of))]
     pub fn of(volume: u8) -> VolumeEffect
         ensures value { result ≡ effects.volume_effect_of volume }

@@ -190,7 +190,7 @@ fn put_instrument(bytes: &mut Vec<u8>, instrument: &Instrument) -> Result<(), No
 fn instrument_len(instrument: &Instrument) -> usize
     requires { IsValidInstrument instrument.now }
     ensures value { result ≡ length (instrument_bytes instrument.now) }
-    ensures few { result ≤ 31458183 }
+    ensures few { result ≤ 125830023 }
 {
     canonical_sizes();
     let samples = instrument.samples.as_slice();
@@ -205,7 +205,7 @@ pub fn instruments_len(instruments: &[Instrument]) -> usize
     requires few { length instruments.now ≤ 128 }
     requires valid { All IsValidInstrument instruments.now }
     ensures value { result ≡ length (flat_map instrument_bytes instruments.now) }
-    ensures few { result ≤ 4026647424 }
+    ensures few { result ≤ 16106242944 }
 {
     let mut len = 0;
     for instrument in instruments {

@@ -100,7 +100,7 @@ fn sample_len(sample: &Sample) -> usize
     requires { IsValidSample sample.now }
     ensures value { result
         ≡ length (sample_header_bytes sample.now) + length (sample_data sample.now) }
-    ensures few { result ≤ 1966120 }
+    ensures few { result ≤ 7864360 }
 {
     canonical_sizes();
     SAMPLE_HEADER as usize + in_bytes(sample, sample.frames.len() as u32) as usize
@@ -112,7 +112,7 @@ pub fn samples_len(samples: &[Sample]) -> usize
     requires valid { All IsValidSample samples.now }
     ensures value { result ≡ length (flat_map sample_header_bytes samples.now)
         + length (flat_map sample_data samples.now) }
-    ensures few { result ≤ 31457920 }
+    ensures few { result ≤ 125829760 }
 {
     let mut len = 0;
     for sample in samples {

@@ -1,7 +1,7 @@
 use Rattle.std.proofs.Common.{◌∙◌, ℕ, ap, sym}
 use Rattle.ft_types.specs.declared.module.Module.{Module}
 use Rattle.ft_replay.specs.Row.{is_delayed, row_start_of}
-use Rattle.ft_channel.proofs.Turning.{delayed_turned, start_turned, turns_shown}
+use Rattle.ft_channel.proofs.Turning.{delayed_turned, empty_turned, start_turned, turns_shown}
 use Rattle.ft_channel.proofs.row.row_start.Goals as goal
 
 pub strike-requires-clause-range : goal.strike-requires-clause-range
@@ -36,3 +36,16 @@ pub returns-then-is_delayed-clause-shown : goal.returns-then-is_delayed-clause-s
 returns-then-is_delayed-clause-shown g c =
     turns_shown g.V.SongView.shows g.V.SongView.shown (λ (version : ℕ) (song : Module) (d : ℕ). row_start_of version song d c.args.cell) c.args.c c.args.view.now c.args.view.now c.args.ch.now c.args.ch.now c.args.ctl.now c.args.ctl.now
     (returns-then-is_delayed-clause-turned g c)
+
+pub returns-then-is_empty-clause-turned : goal.returns-then-is_empty-clause-turned
+returns-then-is_empty-clause-turned g c = λ w is.
+    let empty = c.is_empty.ensures c.if-is_empty.true in (
+      is,
+      empty_turned (g.V.SongView.shown c.args.view.now w) c.args.c c.args.cell c.args.ch.now c.args.ctl.now
+          empty.0 empty.1.0 empty.1.1.0 empty.1.1.1.0 empty.1.1.1.1,
+    )
+
+pub returns-then-is_empty-clause-shown : goal.returns-then-is_empty-clause-shown
+returns-then-is_empty-clause-shown g c =
+    turns_shown g.V.SongView.shows g.V.SongView.shown (λ (version : ℕ) (song : Module) (d : ℕ). row_start_of version song d c.args.cell) c.args.c c.args.view.now c.args.view.now c.args.ch.now c.args.ch.now c.args.ctl.now c.args.ctl.now
+    (returns-then-is_empty-clause-turned g c)

@@ -1,8 +1,9 @@
+use Rattle.ft_channel.proofs.Turning.{silent_became}
 use Rattle.ft_channel.proofs.row.strike.Goals as goal
 
-pub start_note-began-requires-clause-range : goal.start_note-began-requires-clause-range
-start_note-began-requires-clause-range g c = c.take_instrument.ensures.stays.range c.args.c c.requires.range
-
-pub returns-clause-range : goal.returns-clause-range
-returns-clause-range g c =
-    c.volume_start.ensures.stays.range c.args.c (c.after_note.ensures.stays.range c.args.c c.start_note-began.ensures.range)
+pub returns-then-is_silent-clause-changed : goal.returns-then-is_silent-clause-changed
+returns-then-is_silent-clause-changed g c = λ w is.
+    let silent = c.is_silent.ensures c.if-is_silent.true in (
+      is,
+      silent_became (g.V.SongView.shown c.args.view.now w) c.args.c c.args.cell c.args.ch.now silent.0 silent.1.0 silent.1.1,
+    )

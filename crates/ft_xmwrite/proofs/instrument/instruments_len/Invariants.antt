@@ -6,5 +6,5 @@ use Rattle.ft_xmwrite.proofs.instrument.instruments_len.Given as goal
 abbrev pub invariant-loop-instrument : goal.invariant-loop-instrument
 invariant-loop-instrument l = record {
   so_far : l.len ≡ length (flat_map instrument_bytes (take l.instrument-index l.instruments));
-  few : l.len ≤ 31458183 * l.instrument-index;
+  few : l.len ≤ 125830023 * l.instrument-index;
 }

@@ -6,5 +6,5 @@ use Rattle.ft_xmwrite.proofs.sample.samples_len.Given as goal
 abbrev pub invariant-loop-sample : goal.invariant-loop-sample
 invariant-loop-sample l = record {
   so_far : l.len ≡ length (flat_map sample_header_bytes (take l.sample-index l.samples)) + length (flat_map sample_data (take l.sample-index l.samples));
-  few : l.len ≤ 1966120 * l.sample-index;
+  few : l.len ≤ 7864360 * l.sample-index;
 }
