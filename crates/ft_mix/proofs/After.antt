@@ -8,7 +8,7 @@ use Rattle.ft_types.specs.declared.voice.SampleHead.{SampleHead}
 use Rattle.ft_types.specs.declared.voice.Voice.{Voice}
 use Rattle.ft_replay.specs.Range.{IsVoiceInRange}
 use Rattle.ft_types.specs.Valid.{IsValidHead}
-use Rattle.ft_replay.specs.Sound.{turn_of, reached, brought_back, is_ended, voice_after, voices_after, holds_after}
+use Rattle.ft_replay.specs.Sound.{loop_turn, reached, brought_back, is_ended, voice_after, voices_after, holds_after}
 use Rattle.ft_replay.specs.Standing.{IsAscending}
 use Rattle.ft_mix.specs.Mixing.{IsMixed, SoundsOn}
 
@@ -31,7 +31,7 @@ not_false true e = refl
 not_false false e = absurd cc
 
 -- a turn has no more steps than the loop has frames, there and back
-turn_most : (head : SampleHead) → 1 ≤ head.loop_len → (1 ≤ turn_of head) × (turn_of head ≤ 2 * head.loop_len)
+turn_most : (head : SampleHead) → 1 ≤ head.loop_len → (1 ≤ loop_turn head) × (loop_turn head ≤ 2 * head.loop_len)
 turn_most head some =
     cond_both (head.loop_kind == 2) (max 1 (2 * head.loop_len - 2)) head.loop_len (λ (n : ℕ). (1 ≤ n) × (n ≤ 2 * head.loop_len))
     (λ there. (omega arith, omega arith))
@@ -43,7 +43,7 @@ back_in_range : (head : SampleHead) (position : ℕ) → IsValidHead head → (h
 unfolding brought_back
 back_in_range head position v on =
     cond_both ((head.loop_kind == 0) || ltb (position / 2 ^ 32) (head.loop_start + head.loop_len)) position
-    ((head.loop_start + (position / 2 ^ 32 - head.loop_start) % turn_of head) * 2 ^ 32 + position % 2 ^ 32) (λ (n : ℕ). n < 2 * head.frames * 2 ^ 32)
+    ((head.loop_start + (position / 2 ^ 32 - head.loop_start) % loop_turn head) * 2 ^ 32 + position % 2 ^ 32) (λ (n : ℕ). n < 2 * head.frames * 2 ^ 32)
     (λ before.
     or_cases (head.loop_kind == 0) (ltb (position / 2 ^ 32) (head.loop_start + head.loop_len)) before
     (λ none. let lt = on (eqb-true head.loop_kind 0 none) in omega arith)
@@ -55,7 +55,7 @@ back_in_range head position v on =
     let other : head.loop_kind ≢ 0 = eqb-false head.loop_kind 0 parts.0 in
     let some : 1 ≤ head.loop_kind = omega arith in
     let turn = turn_most head (v.looping.some_len some) in
-    let low : (position / 2 ^ 32 - head.loop_start) % turn_of head < turn_of head = mod_below (position / 2 ^ 32 - head.loop_start) (turn_of head) turn.0 in
+    let low : (position / 2 ^ 32 - head.loop_start) % loop_turn head < loop_turn head = mod_below (position / 2 ^ 32 - head.loop_start) (loop_turn head) turn.0 in
     let fits = v.looping.within some in
     let most = turn.1 in
     omega arith)

@@ -7,7 +7,7 @@ use Rattle.std.proofs.lemmas.List.Sums.{sum_by-cons}
 use Rattle.ft_types.specs.declared.voice.SampleHead.{SampleHead}
 use Rattle.ft_types.specs.declared.voice.Voice.{Voice}
 use Rattle.ft_types.specs.Work.{frame_cost, asked, is_kept, is_near, word_of, body_of}
-use Rattle.ft_replay.specs.Sound.{end_of, place_of, reflected, turn_of}
+use Rattle.ft_replay.specs.Sound.{end_of, place_of, reflected, loop_turn}
 use Rattle.ft_mix.specs.Mixing.{Asked, is_slow, cost_by, way_cost}
 
 -- ---- words
@@ -50,13 +50,13 @@ next_cost word newest (first ∷ older) low high =
 abbrev place_by : SampleHead → ℕ → Bool → Option ℕ
 place_by head i none =
     if nat_lt i (if none then head.frames else head.loop_start + head.loop_len) then Some i
-    else (if none then None else Some (head.loop_start + reflected head ((i - head.loop_start) % turn_of head)))
+    else (if none then None else Some (head.loop_start + reflected head ((i - head.loop_start) % loop_turn head)))
 
 -- a frame before the end is its own place
 pub place_before : (head : SampleHead) (i end : ℕ) → end ≡ end_of head → i < end → place_of head i ≡ Some i
 unfolding place_of
 place_before head i end e lt =
-    ap (λ (b : Bool). if b then Some i else (if head.loop_kind == 0 then None else Some (head.loop_start + reflected head ((i - head.loop_start) % turn_of head))))
+    ap (λ (b : Bool). if b then Some i else (if head.loop_kind == 0 then None else Some (head.loop_start + reflected head ((i - head.loop_start) % loop_turn head))))
     (lt-ltb i (end_of head) (subst (λ (n : ℕ). i < n) e lt))
 
 pub place_within : (head : SampleHead) (i : ℕ) → head.loop_kind ≡ 0 → i < head.frames → place_of head i ≡ Some i

@@ -51,8 +51,8 @@ AreLinesInRange many lines = (j : ℕ) → j < many → IsLineInRange (get_or li
 abbrev pub AreValues : SampleHead → Option Owned → ℕ → ℕ → ℕ → List ℤ → Type 0
 AreValues head owned position step many values = (k : ℕ) → k < many → get_or values k (pos 0) ≡ value_at head owned (position + k * step)
 
-abbrev pub AreInRange : ℕ → List ℤ → Type 0
-AreInRange many values = (k : ℕ) → k < many → FitsSigned w16 (get_or values k (pos 0))
+abbrev pub Fit16 : ℕ → List ℤ → Type 0
+Fit16 many values = (k : ℕ) → k < many → FitsSigned w16 (get_or values k (pos 0))
 
 -- ---- sums
 

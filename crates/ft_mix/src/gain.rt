@@ -34,7 +34,7 @@ fn added(sum: i32, value: i32, gain: u32) -> i32
 pub fn add_values(values: &[i32], gain: u32, sums: &mut [i32])
     requires many { length values.now ≡ length sums.old }
     requires gain { gain ≤ 65536 }
-    requires range { mixing.AreInRange (length values.now) values.now }
+    requires range { mixing.Fit16 (length values.now) values.now }
     requires room { mixing.AreLoud 31 (length sums.old) sums.old }
     ensures sums { (k : ℕ) → k < length sums.old → get_or sums.new k (pos 0)
         ≡ (get_or sums.old k (pos 0) +ℤ sound.gained (get_or values.now k (pos 0)) gain) }

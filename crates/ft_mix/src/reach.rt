@@ -12,7 +12,7 @@ use ft_types::{SampleHead, SongView};
 pub fn turn(head: &SampleHead) -> u32
     requires head { IsValidHead head.now }
     requires looped { 1 ≤ head.now.loop_kind }
-    ensures value { result ≡ sound.turn_of head.now }
+    ensures value { result ≡ sound.loop_turn head.now }
     ensures some { 1 ≤ result }
     ensures bound { result ≤ 2 * head.now.loop_len }
 {
@@ -26,7 +26,7 @@ pub fn turn(head: &SampleHead) -> u32
 fn reflected(head: &SampleHead, steps: u32) -> u32
     requires head { IsValidHead head.now }
     requires looped { 1 ≤ head.now.loop_kind }
-    requires steps { steps < sound.turn_of head.now }
+    requires steps { steps < sound.loop_turn head.now }
     ensures value { result ≡ sound.reflected head.now steps }
     ensures within { result < head.now.loop_len }
 {

@@ -24,7 +24,7 @@ fn walk(lines: &[Line], start: u64, step: u64, values: &mut [i32])
     ensures values { (head : Head) (owned : Option Owned) (at : ℕ)
         → mixing.AreLines head owned at (length lines.now) lines.now
         → mixing.AreValues head owned (at * 2 ^ 32 + start) step (length values.old) values.new }
-    ensures range { mixing.AreInRange (length values.old) values.new }
+    ensures range { mixing.Fit16 (length values.old) values.new }
     ensures many { length values.new ≡ length values.old }
 {
     let mut place = start;
@@ -54,7 +54,7 @@ fn read_walk<V: SongView>(
     ensures values { mixing.Tells V.shows V.shown view.old view.new (λ shown. mixing.AreValues
         voice.head (get_or shown.kept voice.channel None) position voice.step
         (length values.old) values.new) }
-    ensures range { mixing.AreInRange (length values.old) values.new }
+    ensures range { mixing.Fit16 (length values.old) values.new }
     ensures many { length values.new ≡ length values.old }
     ensures room { length lines.new ≡ length lines.old }
     ensures holds { V.holds view.new ≡ V.holds view.old }
@@ -87,7 +87,7 @@ fn read_leaps<V: SongView>(view: &mut V, voice: Voice, position: u64, values: &m
     ensures values { mixing.Tells V.shows V.shown view.old view.new (λ shown. mixing.AreValues
         voice.head (get_or shown.kept voice.channel None) position voice.step
         (length values.old) values.new) }
-    ensures range { mixing.AreInRange (length values.old) values.new }
+    ensures range { mixing.Fit16 (length values.old) values.new }
     ensures many { length values.new ≡ length values.old }
     ensures holds { V.holds view.new ≡ V.holds view.old }
     ensures keeps { (c : ℕ) (h : Head) → V.keeps view.old c h → V.keeps view.new c h }
@@ -121,7 +121,7 @@ pub fn read_values<V: SongView>(
     ensures values { mixing.Tells V.shows V.shown view.old view.new (λ shown. mixing.AreValues
         voice.head (get_or shown.kept voice.channel None) (voice.pos + first * voice.step)
         voice.step (length values.old) values.new) }
-    ensures range { mixing.AreInRange (length values.old) values.new }
+    ensures range { mixing.Fit16 (length values.old) values.new }
     ensures many { length values.new ≡ length values.old }
     ensures room { length lines.new ≡ length lines.old }
     ensures holds { V.holds view.new ≡ V.holds view.old }

@@ -16,8 +16,8 @@ low parameter = parameter % 16
 -- ---- the effect byte
 
 -- an arpeggio by nothing is none
-abbrev pub arpeggio : ℕ → Effect
-arpeggio parameter = if parameter == 0 then Nothing else Arpeggio (high parameter) (low parameter)
+abbrev pub arpeggio_of : ℕ → Effect
+arpeggio_of parameter = if parameter == 0 then Nothing else Arpeggio (high parameter) (low parameter)
 
 -- a row in decimal digits; past 63 it is the first
 abbrev pub decimal_row : ℕ → ℕ
@@ -52,7 +52,7 @@ extra_fine digit y = if digit == 1 then ExtraFineUp y else (if digit == 2 then E
 -- 0 to 9, and A to F
 unfoldable pub digit_effect : ℕ → ℕ → Effect
 digit_effect number parameter =
-    if number == 0 then arpeggio parameter
+    if number == 0 then arpeggio_of parameter
     else (if number == 1 then PortamentoUp parameter
     else (if number == 2 then PortamentoDown parameter
     else (if number == 3 then TonePortamento parameter

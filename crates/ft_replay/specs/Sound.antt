@@ -12,12 +12,12 @@ use Rattle.ft_replay.specs.Row.{without_voice}
 
 -- the steps of a turn of a loop, after which it is at its first frame again: a ping-pong loop goes on to its last frame and back,
 -- and one of a single frame stays on it
-abbrev pub turn_of : SampleHead → ℕ
-turn_of head = if head.loop_kind == 2 then max 1 (2 * head.loop_len - 2) else head.loop_len
+abbrev pub loop_turn : SampleHead → ℕ
+loop_turn head = if head.loop_kind == 2 then max 1 (2 * head.loop_len - 2) else head.loop_len
 
 -- the frame of a loop, from its first, so many steps into a turn: a ping-pong loop is reflected at its last frame
 abbrev pub reflected : SampleHead → ℕ → ℕ
-reflected head steps = if nat_lt steps head.loop_len then steps else turn_of head - steps
+reflected head steps = if nat_lt steps head.loop_len then steps else loop_turn head - steps
 
 -- past the last frame of a loop, or of a sample without one
 abbrev pub end_of : SampleHead → ℕ
@@ -29,7 +29,7 @@ unfoldable pub place_of : SampleHead → ℕ → Option ℕ
 place_of head frame =
     if nat_lt frame (end_of head) then Some frame
     else (if head.loop_kind == 0 then None
-    else Some (head.loop_start + reflected head ((frame - head.loop_start) % turn_of head)))
+    else Some (head.loop_start + reflected head ((frame - head.loop_start) % loop_turn head)))
 
 -- a frame of 8 bits counts 256 times
 abbrev pub loudness : Bool → ℤ → ℤ
@@ -120,7 +120,7 @@ is_ended frames voice = voice.last || ((voice.head.loop_kind == 0) && not (nat_l
 unfoldable pub brought_back : SampleHead → ℕ → ℕ
 brought_back head position =
     if (head.loop_kind == 0) || nat_lt (position / 2 ^ 32) (head.loop_start + head.loop_len) then position
-    else (head.loop_start + (position / 2 ^ 32 - head.loop_start) % turn_of head) * 2 ^ 32 + position % 2 ^ 32
+    else (head.loop_start + (position / 2 ^ 32 - head.loop_start) % loop_turn head) * 2 ^ 32 + position % 2 ^ 32
 
 abbrev pub voice_after : ℕ → Voice → Voice
 voice_after frames voice = record voice { pos = brought_back voice.head (reached frames voice) }

@@ -172,7 +172,7 @@ fn extra_fine(digit: u8, y: u8) -> Effect
 
 /// An arpeggio, or nothing where both its digits are 0.
 fn arpeggio(parameter: u8) -> Effect
-    ensures value { result ≡ effects.arpeggio parameter }
+    ensures value { result ≡ effects.arpeggio_of parameter }
     ensures range { effects.IsEffect result }
 {
     if parameter == 0 {

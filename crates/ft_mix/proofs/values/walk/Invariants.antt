@@ -9,5 +9,5 @@ invariant-loop-value l = record {
   place : l.place ≡ l.start + l.value-index * l.step;
   values : (head : SampleHead) (owned : Option Owned) (at : ℕ) → mixing.AreLines head owned at (length l.lines) l.lines
       → mixing.AreValues head owned (at * 2 ^ 32 + l.start) l.step l.value-index l.values;
-  range : mixing.AreInRange l.value-index l.values;
+  range : mixing.Fit16 l.value-index l.values;
 }
