@@ -1,7 +1,9 @@
 #!/usr/bin/env bash
 # Counts the instructions of the rules of a row on one channel, by ft_bench_rows under callgrind: of
-# a row's start and of a later tick, for cells of each kind. It reports, and judges nothing. Wants
-# valgrind, and the program built by `rt run` in crates/ft_bench_rows.
+# a row's start and of a later tick, for cells of each kind, and of a tick in the mean over all kinds
+# and the six ticks of a row. The measuring loop counts with them: it is the start of no cell, which
+# does nothing. It reports, and judges nothing. Wants valgrind, and the program built by `rt run` in
+# crates/ft_bench_rows.
 set -u
 here=$(cd "$(dirname "$0")/.." && pwd)
 program=$here/crates/ft_bench_rows/out/ft_bench_rows
@@ -22,7 +24,8 @@ row() {
     starts=$(count 1001 0 "$@")
     ticks=$(count 1 1000 "$@")
     awk -v n="$name" -v b="$base" -v s="$starts" -v t="$ticks" \
-        'BEGIN { printf "%-28s %8.1f %8.1f\n", n, (s - b) / 1000, (t - b) / 1000 }'
+        'BEGIN { printf "%-28s %8.1f %8.1f\n", n, (s - b) / 1000, (t - b) / 1000 }' |
+        tee -a "$work/rows"
 }
 
 printf '%-28s %8s %8s\n' 'instructions' 'a start' 'a tick'
@@ -40,3 +43,5 @@ row 'two vibratos' 0 0 180 4 132
 row 'multi retrigger' 0 0 0 27 17
 row 'tremor' 0 0 0 29 17
 row 'tempo' 0 0 0 15 6
+awk '{ starts += $(NF - 1); ticks += $NF }
+    END { printf "%-28s %8.1f\n", "in the mean, a tick", (starts + 5 * ticks) / 6 / NR }' "$work/rows"

@@ -26,7 +26,8 @@ fall_few fall gone width lt =
 
 -- ---- the line
 
-pub line_up : (from to : Point) (position : ℕ) → from.y ≤ to.y → from.y + (to.y - from.y) * (position - from.x) / (to.x - from.x) ≡ on_line from to position
+pub line_up : (from to : Point) (position : ℕ) → from.y ≤ to.y
+    → from.y + (to.y - from.y) * (position - from.x) / (to.x - from.x) ≡ on_line from to position
 unfolding on_line
 line_up from to position le =
     let up : (pos to.y -ℤ pos from.y) ≡ pos (to.y - from.y) = omega (arith, ints) in
@@ -52,7 +53,8 @@ flat_at start =
     let it : (pos start +ℤ pos 0) ≡ pos (start - 0) = omega (arith, ints) in
     ap nat_abs it
 
-fallen_by : (start n width : ℕ) → 0 < width → (n + width - 1) / width ≤ start → start - (n + width - 1) / width ≡ nat_abs (pos start +ℤ floor_div (pos 0 -ℤ pos n) width)
+fallen_by : (start n width : ℕ) → 0 < width → (n + width - 1) / width ≤ start
+    → start - (n + width - 1) / width ≡ nat_abs (pos start +ℤ floor_div (pos 0 -ℤ pos n) width)
 fallen_by start zero width lt few =
     let none : (0 + width - 1) / width ≡ 0 = div-eq_of_lt (omega arith) in
     let flat : 0 / width ≡ 0 = div-eq_of_lt lt in
@@ -65,7 +67,8 @@ fallen_by start (suc n) width lt few =
     ∙ ap (λ (z : ℤ). nat_abs (pos start +ℤ floor_div z width)) (sym (under n))
 
 pub line_down : (from to : Point) (position : ℕ) → to.y < from.y → position < to.x → from.x ≤ position
-    → from.y - ((from.y - to.y) * (position - from.x) + (to.x - from.x) - 1) / (to.x - from.x) ≡ on_line from to position
+    → from.y - ((from.y - to.y) * (position - from.x) + (to.x - from.x) - 1) / (to.x - from.x)
+        ≡ on_line from to position
 unfolding on_line
 line_down from to position lt before begun =
     let gone = position - from.x in
@@ -102,7 +105,8 @@ found_by position points n k false e before is =
       ];
     }
 
-pub last_found : (position : ℕ) (points : List Point) (n k : ℕ) → last_by position points n ≡ Some k → IsLastBy position points n k
+pub last_found : (position : ℕ) (points : List Point) (n k : ℕ) → last_by position points n ≡ Some k
+    → IsLastBy position points n k
 last_found position points zero k is = absurd cc
 last_found position points (suc n) k is =
     found_by position points n k (leb (get_or points n origin).x position) refl (last_found position points n k) is

@@ -2,7 +2,8 @@
 use Rattle.std.proofs.Common.{◌≡◌, ℕ, ◌<◌, List, length, get_or, set, ap, sym, ◌∙◌}
 use Rattle.std.proofs.lemmas.List.{set-set, get_or-set_same}
 
-pub set_once : {X : Type 0} (xs ys : List X) (c : ℕ) (x d : X) → c < length xs → ys ≡ set xs c x → (get_or ys c d ≡ x) × (ys ≡ set xs c (get_or ys c d))
+pub set_once : {X : Type 0} (xs ys : List X) (c : ℕ) (x d : X) → c < length xs → ys ≡ set xs c x
+    → (get_or ys c d ≡ x) × (ys ≡ set xs c (get_or ys c d))
 set_once {X = X} xs ys c x d lt e =
     let same : get_or ys c d ≡ x = ap (λ (l : List X). get_or l c d) e ∙ get_or-set_same xs c x d lt in
     (same, e ∙ ap (set xs c) (sym same))

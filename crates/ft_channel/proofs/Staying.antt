@@ -21,7 +21,8 @@ from_start_in_range voice r = record {
 }
 
 -- a voice that goes to its first frame
-pub restart_stays : (channel : Channel) (voice : Voice) → channel.voice ≡ Some voice → Stays channel (record channel { voice = Some (record voice { pos = 0 }) })
+pub restart_stays : (channel : Channel) (voice : Voice) → channel.voice ≡ Some voice
+    → Stays channel (record channel { voice = Some (record voice { pos = 0 }) })
 restart_stays channel voice is = record {
   range = λ c r.
       let remembered = r.memory in

@@ -34,4 +34,5 @@ pub record StaysInPlace (control control_after : Control) : Type 0 where
 
 -- at the first tick of a row its time stays in range
 abbrev pub StaysTimed : ℕ → Control → Control → Type 0
-StaysTimed c control control_after = (n : ℕ) → c < n → control.tick ≡ 0 → IsTimed n control → IsTimed n control_after
+StaysTimed c control control_after =
+    (n : ℕ) → c < n → control.tick ≡ 0 → IsTimed n control → IsTimed n control_after

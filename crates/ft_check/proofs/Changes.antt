@@ -16,7 +16,8 @@ found_at place change [] x found = absurd cc
 found_at zero change (y ∷ xs) x found = let same : y ≡ x = cc in ap (λ z. change z ∷ xs) (sym same)
 found_at (suc place) change (y ∷ xs) x found = ap (λ zs. y ∷ zs) (found_at place change xs x found)
 
-none_at : {X : Type 0} (place : ℕ) (change : X → X) (xs : List X) → slice_get xs place ≡ None → xs ≡ changed_at place change xs
+none_at : {X : Type 0} (place : ℕ) (change : X → X) (xs : List X) → slice_get xs place ≡ None
+    → xs ≡ changed_at place change xs
 none_at place change [] none = refl
 none_at zero change (y ∷ xs) none = absurd cc
 none_at (suc place) change (y ∷ xs) none = ap (λ zs. y ∷ zs) (none_at place change xs none)
@@ -59,13 +60,16 @@ err_so (Err e) holds so = so holds
 -- ---- in a song
 
 pub pattern_now : (song : Module) (p at : ℕ) (change : Pattern → Pattern) (x y : Pattern)
-    → at ≡ p → slice_get song.patterns at ≡ Some x → y ≡ change x → record song { patterns = set song.patterns at y } ≡ with_pattern p change song
+    → at ≡ p → slice_get song.patterns at ≡ Some x → y ≡ change x
+        → record song { patterns = set song.patterns at y } ≡ with_pattern p change song
 pattern_now song p at change x y index found new =
-    ap (λ (ps : List Pattern). record song { patterns = ps }) (changed_found p at change song.patterns x y index found new)
+    ap (λ (ps : List Pattern). record song { patterns = ps })
+        (changed_found p at change song.patterns x y index found new)
 
 pub pattern_back : (song : Module) (at : ℕ) (x y : Pattern)
     → slice_get song.patterns at ≡ Some x → y ≡ x → record song { patterns = set song.patterns at y } ≡ song
-pattern_back song at x y found same = ap (λ (ps : List Pattern). record song { patterns = ps }) (put_back at song.patterns x y found same)
+pattern_back song at x y found same =
+    ap (λ (ps : List Pattern). record song { patterns = ps }) (put_back at song.patterns x y found same)
 
 pub pattern_none : (song : Module) (p at : ℕ) (change : Pattern → Pattern)
     → at ≡ p → slice_get song.patterns at ≡ None → song ≡ with_pattern p change song
@@ -76,7 +80,8 @@ pub instrument_now : (song : Module) (i at : ℕ) (change : Instrument → Instr
     → at ≡ i - 1 → slice_get song.instruments at ≡ Some x → y ≡ change x
     → record song { instruments = set song.instruments at y } ≡ with_instrument i change song
 instrument_now song i at change x y index found new =
-    ap (λ (is : List Instrument). record song { instruments = is }) (changed_found (i - 1) at change song.instruments x y index found new)
+    ap (λ (is : List Instrument). record song { instruments = is })
+        (changed_found (i - 1) at change song.instruments x y index found new)
 
 pub instrument_back : (song : Module) (at : ℕ) (x y : Instrument)
     → slice_get song.instruments at ≡ Some x → y ≡ x → record song { instruments = set song.instruments at y } ≡ song
@@ -86,20 +91,24 @@ instrument_back song at x y found same =
 pub instrument_none : (song : Module) (i at : ℕ) (change : Instrument → Instrument)
     → at ≡ i - 1 → slice_get song.instruments at ≡ None → song ≡ with_instrument i change song
 instrument_none song i at change index none =
-    ap (λ (is : List Instrument). record song { instruments = is }) (changed_none (i - 1) at change song.instruments index none)
+    ap (λ (is : List Instrument). record song { instruments = is })
+        (changed_none (i - 1) at change song.instruments index none)
 
 pub sample_now : (instrument : Instrument) (s at : ℕ) (change : Sample → Sample) (x y : Sample)
     → at ≡ s → slice_get instrument.samples at ≡ Some x → y ≡ change x
     → record instrument { samples = set instrument.samples at y } ≡ sample_in_changed s change instrument
 sample_now instrument s at change x y index found new =
-    ap (λ (ss : List Sample). record instrument { samples = ss }) (changed_found s at change instrument.samples x y index found new)
+    ap (λ (ss : List Sample). record instrument { samples = ss })
+        (changed_found s at change instrument.samples x y index found new)
 
 pub sample_back : (instrument : Instrument) (at : ℕ) (x y : Sample)
-    → slice_get instrument.samples at ≡ Some x → y ≡ x → record instrument { samples = set instrument.samples at y } ≡ instrument
+    → slice_get instrument.samples at ≡ Some x → y ≡ x
+        → record instrument { samples = set instrument.samples at y } ≡ instrument
 sample_back instrument at x y found same =
     ap (λ (ss : List Sample). record instrument { samples = ss }) (put_back at instrument.samples x y found same)
 
 pub sample_none : (instrument : Instrument) (s at : ℕ) (change : Sample → Sample)
     → at ≡ s → slice_get instrument.samples at ≡ None → instrument ≡ sample_in_changed s change instrument
 sample_none instrument s at change index none =
-    ap (λ (ss : List Sample). record instrument { samples = ss }) (changed_none s at change instrument.samples index none)
+    ap (λ (ss : List Sample). record instrument { samples = ss })
+        (changed_none s at change instrument.samples index none)

@@ -15,7 +15,8 @@ block_changed (Transpose d) cell = moved d cell
 -- a cell of a block changed by its row, its channel and itself; another stays
 abbrev pub blocked : ℕ → ℕ → ℕ → ℕ → ℕ → (ℕ → ℕ → Cell → Cell) → ℕ → Cell → Cell
 blocked channels r c h w change place cell =
-    if in_block r c h w (place / channels) (place % channels) then change (place / channels) (place % channels) cell else cell
+    if in_block r c h w (place / channels) (place % channels)
+        then change (place / channels) (place % channels) cell else cell
 
 abbrev pub cells_in : Option Pattern → List Cell
 cells_in None = []
@@ -25,6 +26,8 @@ cells_in (Some pattern) = pattern.cells
 abbrev pub cells_at : Module → ℕ → List Cell
 cells_at song p = cells_in (slice_get song.patterns p)
 
--- the cell of whole rows that stands as far from their first row and this channel as a cell from row r and channel c2
+-- the cell of whole rows that stands as far from their first row and this channel as a cell from
+-- row r and channel c2
 abbrev pub from_rows : ℕ → List Cell → ℕ → ℕ → ℕ → ℕ → ℕ → Cell → Cell
-from_rows channels rows c r c2 row channel cell = get_or rows ((row - r) * channels + (c + (channel - c2))) empty_cell
+from_rows channels rows c r c2 row channel cell =
+    get_or rows ((row - r) * channels + (c + (channel - c2))) empty_cell

@@ -1,4 +1,5 @@
--- What the changes of one pattern, one instrument and one sample do, and what they take for granted.
+-- What the changes of one pattern, one instrument and one sample do, and what they take for
+-- granted.
 use Rattle.std.specs.Prelude.{ℕ, ◌<◌, ◌≤◌}
 use Rattle.ft_types.specs.declared.pattern.Pattern.{Pattern}
 use Rattle.ft_types.specs.declared.instrument.Instrument.{Instrument}
@@ -31,8 +32,10 @@ abbrev pub instrument_changed : InstrumentChange → Instrument → Instrument
 instrument_changed instruments.Zero instrument = zero_instrument
 instrument_changed (instruments.Name name) instrument = record instrument { name = name }
 instrument_changed (instruments.Map n k) instrument = with_map n k instrument
-instrument_changed (instruments.Head w count sus ls le flags) instrument = with_envelope w (with_head count sus ls le flags) instrument
-instrument_changed (instruments.Place w k x y) instrument = with_envelope w (with_point k (record { x = x; y = y })) instrument
+instrument_changed (instruments.Head w count sus ls le flags) instrument =
+    with_envelope w (with_head count sus ls le flags) instrument
+instrument_changed (instruments.Place w k x y) instrument =
+    with_envelope w (with_point k (record { x = x; y = y })) instrument
 instrument_changed (instruments.Vib vibrato) instrument = record instrument { vibrato = vibrato }
 instrument_changed (instruments.Fade n) instrument = record instrument { fadeout = n }
 instrument_changed instruments.MoreSamples instrument = with_new_sample instrument
@@ -46,7 +49,8 @@ SuitsInstrument _ = Unit {0}
 
 abbrev pub sample_changed : SampleChange → Sample → Sample
 sample_changed (samples.Name name) sample = record sample { name = name }
-sample_changed (samples.Head vol fine rel pan) sample = record sample { volume = vol; finetune = fine; relative = rel; panning = pan }
+sample_changed (samples.Head vol fine rel pan) sample =
+    record sample { volume = vol; finetune = fine; relative = rel; panning = pan }
 sample_changed (samples.Turns kind start len) sample = with_loop kind start len sample
 sample_changed (samples.Cut from to) sample = without_frames from to sample
 sample_changed (samples.Reverse from to) sample = turned from to sample
@@ -55,7 +59,8 @@ sample_changed (samples.Bits b) sample = with_bits b sample
 
 -- the sample of a number of an instrument changed
 abbrev pub sample_in_changed : ℕ → (Sample → Sample) → Instrument → Instrument
-sample_in_changed s change instrument = record instrument { samples = changed_at s change instrument.samples }
+sample_in_changed s change instrument =
+    record instrument { samples = changed_at s change instrument.samples }
 
 -- the frames are there
 abbrev pub SuitsFrames : ℕ → SampleChange → Type 0

@@ -1,14 +1,13 @@
 -- An edit that isn't refused names what is there.
-use Rattle.std.proofs.Common.{◌≡◌, ℕ, ◌+◌, ◌-◌, ◌<◌, ◌≤◌, List, [], ◌∷◌, ◌++◌, Option, None, Some, length, pos, arith}
+use Rattle.std.proofs.Common.{◌≡◌, ℕ, ◌+◌, ◌-◌, ◌<◌, List, [], ◌∷◌, Option, None, length, pos, arith}
 use Rattle.std.specs.Prelude.{nat_lt, nat_le, ◌&&◌}
 use Rattle.ft_types.specs.declared.module.Module.{Module}
-use Rattle.ft_types.specs.declared.edit.Edit.{Edit}
 use Rattle.ft_types.specs.declared.edit.Edit.TheVariants as edits
 use Rattle.ft_types.specs.declared.edit_fault.EditFault.{EditFault}
 use Rattle.ft_types.specs.declared.edit_fault.EditFault.TheVariants.{NoPattern, NoRow, NoChannel, Range, Cut}
 use Rattle.ft_types.specs.Views.{rows_at}
-use Rattle.ft_edits.specs.Faults.{unless, first_of, fault_of, causes_of, block_of, sounding, sampled, framed, stored, row_of, channel_of, sample_of, instrument_of, samples_at, frames_at, within}
-use Rattle.ft_edits.specs.Allowed.{HasBlock, HasFrames, Allows}
+use Rattle.ft_edits.specs.Faults.{unless, first_of, block_of, sampled, framed, stored, row_of, channel_of, sample_of, samples_at, frames_at, within}
+use Rattle.ft_edits.specs.Allowed.{HasBlock, HasFrames}
 use Rattle.ft_edits.specs.Laws.{AllowedIsThere}
 use Rattle.ft_edits.proofs.Causes.{passed, passed_all, both, low, most, ranged}
 
@@ -34,24 +33,31 @@ block_there song p r c h w none =
     let end = low (c + w - 1) song.channels v.0 in
     (low p (length song.patterns) s.0, omega (arith, rows, last), omega (arith, channels, end))
 
-sample_rest : (song : Module) (i s : ℕ) (causes : List (Option EditFault)) → first_of (sampled song i s causes) ≡ None → first_of causes ≡ None
+sample_rest : (song : Module) (i s : ℕ) (causes : List (Option EditFault)) → first_of (sampled song i s causes) ≡ None
+    → first_of causes ≡ None
 sample_rest song i s causes none =
     let a = passed (nat_lt 0 i && nat_le i (length song.instruments)) _ (sample_of song i s ∷ causes) none in
     let b = passed (nat_lt s (samples_at song i)) _ causes a.1 in
     b.1
 
-some_instrument : (song : Module) (i s : ℕ) (causes : List (Option EditFault)) → first_of (sampled song i s causes) ≡ None → 0 < i
+some_instrument : (song : Module) (i s : ℕ) (causes : List (Option EditFault))
+    → first_of (sampled song i s causes) ≡ None → 0 < i
 some_instrument song i s causes none =
     let a = passed (nat_lt 0 i && nat_le i (length song.instruments)) _ (sample_of song i s ∷ causes) none in
     low 0 i (both (nat_lt 0 i) (nat_le i (length song.instruments)) a.0).0
 
-frames_there : (song : Module) (i s from to : ℕ) (causes : List (Option EditFault)) → first_of (framed song i s from to causes) ≡ None
+frames_there : (song : Module) (i s from to : ℕ) (causes : List (Option EditFault))
+    → first_of (framed song i s from to causes) ≡ None
     → HasFrames song i s from to × (first_of causes ≡ None)
 frames_there song i s from to causes none =
-    let rest = sample_rest song i s (unless (nat_le from to && nat_le to (frames_at song i s)) (Cut from to (frames_at song i s)) ∷ causes) none in
+    let rest =
+        sample_rest song i s
+        (unless (nat_le from to && nat_le to (frames_at song i s)) (Cut from to (frames_at song i s)) ∷ causes) none in
     let p = passed (nat_le from to && nat_le to (frames_at song i s)) (Cut from to (frames_at song i s)) causes rest in
     let b = both (nat_le from to) (nat_le to (frames_at song i s)) p.0 in
-    let some = some_instrument song i s (unless (nat_le from to && nat_le to (frames_at song i s)) (Cut from to (frames_at song i s)) ∷ causes) none in
+    let some =
+        some_instrument song i s
+        (unless (nat_le from to && nat_le to (frames_at song i s)) (Cut from to (frames_at song i s)) ∷ causes) none in
     ((some, most from to b.0, most to (frames_at song i s) b.1), p.1)
 
 pub allowed : AllowedIsThere
@@ -70,7 +76,9 @@ allowed song (edits.Delorder position) none =
     let s = passed (nat_lt position (length song.orders)) _ _ none in
     low position (length song.orders) s.0
 allowed song (edits.Map i n k) none =
-    let h = ranged 7 0 95 n (within 13 0 15 k ∷ []) (sample_rest song i 0 (within 7 0 95 n ∷ within 13 0 15 k ∷ []) none) in h.1
+    let h =
+        ranged 7 0 95 n (within 13 0 15 k ∷ []) (sample_rest song i 0 (within 7 0 95 n ∷ within 13 0 15 k ∷ []) none) in
+        h.1
 allowed song (edits.Point i w k x y) none =
     let rest : List (Option EditFault) = within 7 0 11 k ∷ within 9 0 64 y ∷ [] in
     let a = ranged 18 0 1 w rest (sample_rest song i 0 (within 18 0 1 w ∷ rest) none) in

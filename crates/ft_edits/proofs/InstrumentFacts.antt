@@ -90,7 +90,8 @@ name_kept name instrument bytes v = record {
   };
 }
 
-pub map_kept : (n k : ℕ) (instrument : Instrument) → k ≤ 15 → 0 < length instrument.samples → IsValidInstrument instrument
+pub map_kept : (n k : ℕ) (instrument : Instrument) → k ≤ 15 → 0 < length instrument.samples
+    → IsValidInstrument instrument
     → IsValidInstrument (with_map n k instrument)
 map_kept n k instrument low some v = record {
   name = v.name;
@@ -105,7 +106,8 @@ map_kept n k instrument low some v = record {
   without = λ none. sounds instrument some none (IsZeroInstrument (with_map n k instrument));
 }
 
-pub vibrato_kept : (vibrato : Vibrato) (instrument : Instrument) → IsValidVibrato vibrato → 0 < length instrument.samples
+pub vibrato_kept : (vibrato : Vibrato) (instrument : Instrument) → IsValidVibrato vibrato
+    → 0 < length instrument.samples
     → IsValidInstrument instrument → IsValidInstrument (record instrument { vibrato = vibrato })
 vibrato_kept vibrato instrument valid some v = record {
   name = v.name;
@@ -150,7 +152,8 @@ with_volume envelope instrument valid some v = record {
   without = λ none. sounds instrument some none (IsZeroInstrument (record instrument { volume = envelope }));
 }
 
-with_panning : (envelope : Envelope) (instrument : Instrument) → IsValidEnvelope envelope → 0 < length instrument.samples
+with_panning : (envelope : Envelope) (instrument : Instrument) → IsValidEnvelope envelope
+    → 0 < length instrument.samples
     → IsValidInstrument instrument → IsValidInstrument (record instrument { panning = envelope })
 with_panning envelope instrument valid some v = record {
   name = v.name;
@@ -165,19 +168,23 @@ with_panning envelope instrument valid some v = record {
   without = λ none. sounds instrument some none (IsZeroInstrument (record instrument { panning = envelope }));
 }
 
-which_kept : (b : Bool) (volume panning : Instrument) → IsValidInstrument volume → IsValidInstrument panning → IsValidInstrument (cond b volume panning)
+which_kept : (b : Bool) (volume panning : Instrument) → IsValidInstrument volume → IsValidInstrument panning
+    → IsValidInstrument (cond b volume panning)
 which_kept true volume panning v p = v
 which_kept false volume panning v p = p
 
 pub envelope_kept : (which : ℕ) (change : Envelope → Envelope) (instrument : Instrument)
     → ((envelope : Envelope) → IsValidEnvelope envelope → IsValidEnvelope (change envelope))
-    → 0 < length instrument.samples → IsValidInstrument instrument → IsValidInstrument (with_envelope which change instrument)
+    → 0 < length instrument.samples → IsValidInstrument instrument
+        → IsValidInstrument (with_envelope which change instrument)
 envelope_kept which change instrument keeps some v =
-    which_kept (which == 0) (record instrument { volume = change instrument.volume }) (record instrument { panning = change instrument.panning })
+    which_kept (which == 0) (record instrument { volume = change instrument.volume })
+        (record instrument { panning = change instrument.panning })
     (with_volume (change instrument.volume) instrument (keeps instrument.volume v.volume) some v)
     (with_panning (change instrument.panning) instrument (keeps instrument.panning v.panning) some v)
 
-pub head_kept : (count sus ls le flags : ℕ) (envelope : Envelope) → count ≤ 12 → sus ≤ 11 → ls ≤ 11 → le ≤ 11 → flags ≤ 7
+pub head_kept : (count sus ls le flags : ℕ) (envelope : Envelope) → count ≤ 12 → sus ≤ 11 → ls ≤ 11 → le ≤ 11
+    → flags ≤ 7
     → IsValidEnvelope envelope → IsValidEnvelope (with_head count sus ls le flags envelope)
 head_kept count sus ls le flags envelope a b c d e v =
     record { twelve = v.twelve; points = v.points; count = a; sustain = b; loop_start = c; loop_end = d; flags = e }

@@ -4,7 +4,8 @@ use Rattle.std.specs.Prelude.{slice_get}
 use Rattle.std.proofs.lemmas.List.Elements.{All-cons, All-head, All-tail, All-take, All-drop, All-append}
 use Rattle.ft_edits.specs.Lists.{changed_at, each_from, stretch_of, with_stretch}
 
-pub length-changed : {X : Type 0} (change : X → X) (place : ℕ) (xs : List X) → length (changed_at place change xs) ≡ length xs
+pub length-changed : {X : Type 0} (change : X → X) (place : ℕ) (xs : List X)
+    → length (changed_at place change xs) ≡ length xs
 length-changed change zero [] = refl
 length-changed change (suc place) [] = refl
 length-changed change zero (x ∷ xs) = refl
@@ -15,11 +16,14 @@ pub all-changed : {X : Type 0} (P : X → Type 0) (change : X → X) (place : �
     → All P xs → ((x : X) → slice_get xs place ≡ Some x → P x → P (change x)) → All P (changed_at place change xs)
 all-changed P change zero [] all keeps = all
 all-changed P change (suc place) [] all keeps = all
-all-changed P change zero (x ∷ xs) all keeps = All-cons P (change x) xs (keeps x refl (All-head P x xs all)) (All-tail P x xs all)
+all-changed P change zero (x ∷ xs) all keeps =
+    All-cons P (change x) xs (keeps x refl (All-head P x xs all)) (All-tail P x xs all)
 all-changed P change (suc place) (x ∷ xs) all keeps =
-    All-cons P x (changed_at place change xs) (All-head P x xs all) (all-changed P change place xs (All-tail P x xs all) keeps)
+    All-cons P x (changed_at place change xs) (All-head P x xs all)
+        (all-changed P change place xs (All-tail P x xs all) keeps)
 
-pub length-each : {X : Type 0} (change : ℕ → X → X) (place : ℕ) (xs : List X) → length (each_from change place xs) ≡ length xs
+pub length-each : {X : Type 0} (change : ℕ → X → X) (place : ℕ) (xs : List X)
+    → length (each_from change place xs) ≡ length xs
 length-each change place [] = refl
 length-each change place (x ∷ xs) = ap suc (length-each change (place + 1) xs)
 

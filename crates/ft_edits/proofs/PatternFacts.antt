@@ -14,11 +14,19 @@ use Rattle.ft_edits.proofs.ListFacts.{length-each, all-each}
 use Rattle.ft_edits.proofs.Causes.{both, most}
 
 pub empty_valid : IsValidCell empty_cell
-empty_valid = record { note = omega arith; instrument = omega arith; volume = omega arith; effect = omega arith; parameter = omega arith }
+empty_valid =
+    record {
+      note = omega arith;
+      instrument = omega arith;
+      volume = omega arith;
+      effect = omega arith;
+      parameter = omega arith;
+    }
 
 -- as many valid cells in place of these
 pub cells_valid : (channels : ℕ) (pattern : Pattern) (cells : List Cell) → IsValidPattern channels pattern
-    → length cells ≡ length pattern.cells → All IsValidCell cells → IsValidPattern channels (record pattern { cells = cells })
+    → length cells ≡ length pattern.cells → All IsValidCell cells
+        → IsValidPattern channels (record pattern { cells = cells })
 cells_valid channels pattern cells v same all =
     record { some_rows = v.some_rows; few_rows = v.few_rows; whole = same ∙ v.whole; cells = all }
 
@@ -27,9 +35,15 @@ all_empty n = All-replicate IsValidCell n empty_cell empty_valid
 
 pub empty_pattern_valid : (channels n : ℕ) → 1 ≤ n → n ≤ 256 → IsValidPattern channels (empty_pattern channels n)
 empty_pattern_valid channels n some few =
-    record { some_rows = some; few_rows = few; whole = length-replicate {A = Cell} (n * channels) empty_cell; cells = all_empty (n * channels) }
+    record {
+          some_rows = some;
+          few_rows = few;
+          whole = length-replicate {A = Cell} (n * channels) empty_cell;
+          cells = all_empty (n * channels);
+        }
 
-pub cell_kept : (channels r c : ℕ) (cell : Cell) (pattern : Pattern) → IsValidCell cell → IsValidPattern channels pattern
+pub cell_kept : (channels r c : ℕ) (cell : Cell) (pattern : Pattern) → IsValidCell cell
+    → IsValidPattern channels pattern
     → IsValidPattern channels (with_cell channels r c cell pattern)
 cell_kept channels r c cell pattern valid v =
     cells_valid channels pattern (set pattern.cells (r * channels + c) cell) v
@@ -42,7 +56,8 @@ rows_kept channels n pattern some few v = record {
   some_rows = some;
   few_rows = few;
   whole = length-take (n * channels) (pattern.cells ++ empty_rows channels n)
-      ∙ omega (arith, length-append pattern.cells (empty_rows channels n), length-replicate {A = Cell} (n * channels) empty_cell);
+      ∙ omega
+          (arith, length-append pattern.cells (empty_rows channels n), length-replicate {A = Cell} (n * channels) empty_cell);
   cells = All-take IsValidCell (n * channels) (pattern.cells ++ empty_rows channels n)
       (All-append IsValidCell pattern.cells (empty_rows channels n) v.cells (all_empty (n * channels)));
 }
@@ -72,7 +87,8 @@ new_row_kept channels r pattern v =
 row_within : (channels r rows : ℕ) → r < rows → r * channels + channels ≤ rows * channels
 row_within channels r zero below = absurd (omega (arith, below))
 row_within channels zero (suc rows) below = omega arith
-row_within channels (suc r) (suc rows) below = let h = row_within channels r rows (omega (arith, below)) in omega (arith, h)
+row_within channels (suc r) (suc rows) below =
+    let h = row_within channels r rows (omega (arith, below)) in omega (arith, h)
 
 pub without_row_kept : (channels r : ℕ) (pattern : Pattern) → r < pattern.rows → IsValidPattern channels pattern
     → IsValidPattern channels (without_row channels r pattern)
@@ -106,10 +122,12 @@ pub block_kept : (channels r c h w : ℕ) (change : ℕ → ℕ → Cell → Cel
     → IsValidPattern channels pattern → IsValidPattern channels (with_block channels r c h w change pattern)
 block_kept channels r c h w change pattern keeps v =
     let each : ℕ → Cell → Cell = λ place cell.
-    cond (in_block r c h w (place / channels) (place % channels)) (change (place / channels) (place % channels) cell) cell in
+    cond (in_block r c h w (place / channels) (place % channels)) (change (place / channels) (place % channels) cell)
+        cell in
     cells_valid channels pattern (each_from each 0 pattern.cells) v (length-each each 0 pattern.cells)
     (all-each IsValidCell each 0 pattern.cells v.cells
-    (λ k cell valid. chosen (in_block r c h w (k / channels) (k % channels)) (change (k / channels) (k % channels) cell) cell
+    (λ k cell valid. chosen (in_block r c h w (k / channels) (k % channels)) (change (k / channels) (k % channels) cell)
+        cell
     (keeps (k / channels) (k % channels) cell valid) valid))
 
 low_note : (z : ℤ) → is_note z ≡ true → nat_abs z ≤ 97
@@ -132,7 +150,8 @@ moved_kept d cell v = record {
 
 -- ---- cells that are read
 
-all_got : (P : Cell → Type 0) (cells : List Cell) (k : ℕ) → All P cells → P empty_cell → P (unwrap_or (slice_get cells k) empty_cell)
+all_got : (P : Cell → Type 0) (cells : List Cell) (k : ℕ) → All P cells → P empty_cell
+    → P (unwrap_or (slice_get cells k) empty_cell)
 all_got P [] k all none = none
 all_got P (cell ∷ cells) zero all none = all 0 cell (omega arith)
 all_got P (cell ∷ cells) (suc k) all none = all_got P cells k (λ j d below. all (suc j) d (omega (arith, below))) none
@@ -140,15 +159,19 @@ all_got P (cell ∷ cells) (suc k) all none = all_got P cells k (λ j d below. a
 in_pattern : (channels : ℕ) (pattern : Pattern) (row channel : ℕ) → IsValidPattern channels pattern
     → IsValidCell (cell_in channels (Some pattern) row channel)
 in_pattern channels pattern row channel v =
-    chosen (nat_lt row pattern.rows) (unwrap_or (slice_get pattern.cells (row * channels + channel)) empty_cell) empty_cell
+    chosen (nat_lt row pattern.rows) (unwrap_or (slice_get pattern.cells (row * channels + channel)) empty_cell)
+        empty_cell
     (all_got IsValidCell pattern.cells (row * channels + channel) v.cells empty_valid) empty_valid
 
 in_patterns : (channels : ℕ) (patterns : List Pattern) (p row channel : ℕ) → All (IsValidPattern channels) patterns
     → IsValidCell (cell_in channels (slice_get patterns p) row channel)
 in_patterns channels [] p row channel all = empty_valid
-in_patterns channels (pattern ∷ patterns) zero row channel all = in_pattern channels pattern row channel (all 0 pattern (omega arith))
+in_patterns channels (pattern ∷ patterns) zero row channel all =
+    in_pattern channels pattern row channel (all 0 pattern (omega arith))
 in_patterns channels (pattern ∷ patterns) (suc p) row channel all =
     in_patterns channels patterns p row channel (λ j d below. all (suc j) d (omega (arith, below)))
 
-pub copied_valid : (song : Module) (p r c r2 c2 row channel : ℕ) → IsValid song → IsValidCell (copied song p r c r2 c2 row channel)
-copied_valid song p r c r2 c2 row channel v = in_patterns song.channels song.patterns p (r + (row - r2)) (c + (channel - c2)) v.patterns
+pub copied_valid : (song : Module) (p r c r2 c2 row channel : ℕ) → IsValid song
+    → IsValidCell (copied song p r c r2 c2 row channel)
+copied_valid song p r c r2 c2 row channel v =
+    in_patterns song.channels song.patterns p (r + (row - r2)) (c + (channel - c2)) v.patterns

@@ -49,25 +49,31 @@ pub new_sample_kept : (instrument : Instrument) → length instrument.samples + 
     → IsValidInstrument (with_new_sample instrument)
 new_sample_kept instrument few v =
     let len = length-append instrument.samples (new_sample ∷ []) in
-    with_valid_samples instrument (instrument.samples ++ new_sample ∷ []) v (omega (arith, len)) (omega (arith, len, few))
+    with_valid_samples instrument (instrument.samples ++ new_sample ∷ []) v (omega (arith, len))
+        (omega (arith, len, few))
     (All-append IsValidSample instrument.samples (new_sample ∷ []) v.samples
     (All-cons IsValidSample new_sample [] new_valid (All-nil IsValidSample)))
 
-without_when : (b : Bool) (instrument : Instrument) → nat_le (length instrument.samples) 1 ≡ b → IsValidInstrument instrument
-    → IsValidInstrument (cond b (named_only instrument.name) (record instrument { samples = without_last instrument.samples }))
+without_when : (b : Bool) (instrument : Instrument) → nat_le (length instrument.samples) 1 ≡ b
+    → IsValidInstrument instrument
+    → IsValidInstrument
+        (cond b (named_only instrument.name) (record instrument { samples = without_last instrument.samples }))
 without_when true instrument is v = named_valid instrument.name v.name
 without_when false instrument is v =
     let more : 1 < length instrument.samples = grind (arith, nat_tests) in
     let len = length-take (length instrument.samples - 1) instrument.samples in
-    with_valid_samples instrument (without_last instrument.samples) v (omega (arith, len, more)) (omega (arith, len, v.few_samples))
+    with_valid_samples instrument (without_last instrument.samples) v (omega (arith, len, more))
+        (omega (arith, len, v.few_samples))
     (All-take IsValidSample (length instrument.samples - 1) instrument.samples v.samples)
 
-pub without_kept : (instrument : Instrument) → IsValidInstrument instrument → IsValidInstrument (without_sample instrument)
+pub without_kept : (instrument : Instrument) → IsValidInstrument instrument
+    → IsValidInstrument (without_sample instrument)
 without_kept instrument v = without_when (nat_le (length instrument.samples) 1) instrument refl v
 
 -- ---- heads and loops
 
-pub sample_name_kept : (name : List ℕ) (sample : Sample) → IsBytes 22 name → IsValidSample sample → IsValidSample (record sample { name = name })
+pub sample_name_kept : (name : List ℕ) (sample : Sample) → IsBytes 22 name → IsValidSample sample
+    → IsValidSample (record sample { name = name })
 sample_name_kept name sample bytes v = record {
   name = bytes;
   volume = v.volume;
@@ -79,8 +85,10 @@ sample_name_kept name sample bytes v = record {
   frames = v.frames;
 }
 
-pub sample_head_kept : (vol : ℕ) (fine rel : ℤ) (pan : ℕ) (sample : Sample) → vol ≤ 64 → FitsSigned w8 fine → FitsSigned w8 rel → pan < 256
-    → IsValidSample sample → IsValidSample (record sample { volume = vol; finetune = fine; relative = rel; panning = pan })
+pub sample_head_kept : (vol : ℕ) (fine rel : ℤ) (pan : ℕ) (sample : Sample) → vol ≤ 64 → FitsSigned w8 fine
+    → FitsSigned w8 rel → pan < 256
+    → IsValidSample sample
+        → IsValidSample (record sample { volume = vol; finetune = fine; relative = rel; panning = pan })
 sample_head_kept vol fine rel pan sample a b c d v = record {
   name = v.name;
   volume = a;
@@ -116,10 +124,12 @@ loop_of kind start len frames few some within = record {
   within = λ more. let h = within more in grind (arith, nat_tests);
 }
 
-loop_len : (kind start len frames : ℕ) → ((kind == 0) || ((nat_lt 0 len) && nat_le (start + len) frames)) ≡ true → 1 ≤ kind → 1 ≤ len
+loop_len : (kind start len frames : ℕ) → ((kind == 0) || ((nat_lt 0 len) && nat_le (start + len) frames)) ≡ true
+    → 1 ≤ kind → 1 ≤ len
 loop_len kind start len frames holds more = grind (arith, nat_tests)
 
-loop_end : (kind start len frames : ℕ) → ((kind == 0) || ((nat_lt 0 len) && nat_le (start + len) frames)) ≡ true → 1 ≤ kind → start + len ≤ frames
+loop_end : (kind start len frames : ℕ) → ((kind == 0) || ((nat_lt 0 len) && nat_le (start + len) frames)) ≡ true
+    → 1 ≤ kind → start + len ≤ frames
 loop_end kind start len frames holds more = grind (arith, nat_tests)
 
 pub loop_kept : (kind start len : ℕ) (sample : Sample) → kind ≤ 2
@@ -137,7 +147,8 @@ record FitsFrames (frames : List ℤ) (sample : Sample) : Type 0 where
   few : length frames ≤ 3932160
   each : All (FitsSigned (width_of sample.wide)) frames
 
-with_loop_and_frames : (kind start len : ℕ) (frames : List ℤ) (sample : Sample) → IsValidSample sample → FitsFrames frames sample
+with_loop_and_frames : (kind start len : ℕ) (frames : List ℤ) (sample : Sample) → IsValidSample sample
+    → FitsFrames frames sample
     → IsValidLoop kind start len (length frames)
     → IsValidSample (record sample { loop_kind = kind; loop_start = start; loop_len = len; frames = frames })
 with_loop_and_frames kind start len frames sample v fits valid = record {
@@ -151,15 +162,20 @@ with_loop_and_frames kind start len frames sample v fits valid = record {
   frames = fits.each;
 }
 
-fit_when : (b : Bool) (frames : List ℤ) (sample : Sample) (start len : ℕ) → (len == 0) ≡ b → len ≤ length frames - start → start ≤ length frames
+fit_when : (b : Bool) (frames : List ℤ) (sample : Sample) (start len : ℕ) → (len == 0) ≡ b → len ≤ length frames - start
+    → start ≤ length frames
     → IsValidSample sample → FitsFrames frames sample
-    → IsValidSample (cond b (with_loop 0 0 0 (record sample { frames = frames })) (with_loop sample.loop_kind start len (record sample { frames = frames })))
+    → IsValidSample
+        (cond b (with_loop 0 0 0 (record sample { frames = frames }))
+            (with_loop sample.loop_kind start len (record sample { frames = frames })))
 fit_when true frames sample start len is in_len in_start v fits =
     with_loop_and_frames 0 0 0 frames sample v fits (no_loop (length frames))
 fit_when false frames sample start len is in_len in_start v fits =
     let some : 1 ≤ len = grind (arith, nat_tests) in
-    with_loop_and_frames sample.loop_kind (cond (sample.loop_kind == 0) 0 start) (cond (sample.loop_kind == 0) 0 len) frames sample v fits
-    (loop_of sample.loop_kind start len (length frames) v.looping.kind (λ more. some) (λ more. omega (arith, in_len, in_start)))
+    with_loop_and_frames sample.loop_kind (cond (sample.loop_kind == 0) 0 start) (cond (sample.loop_kind == 0) 0 len)
+        frames sample v fits
+    (loop_of sample.loop_kind start len (length frames) v.looping.kind (λ more. some)
+        (λ more. omega (arith, in_len, in_start)))
 
 refit_valid : (frames : List ℤ) (sample : Sample) → IsValidSample sample → FitsFrames frames sample
     → IsValidSample (refitted (record sample { frames = frames }))
@@ -168,7 +184,8 @@ refit_valid frames sample v fits =
     let len : ℕ = min (length frames - start) sample.loop_len in
     fit_when (len == 0) frames sample start len refl (omega arith) (omega arith) v fits
 
-pub cut_kept : (from to : ℕ) (sample : Sample) → from ≤ to → IsValidSample sample → IsValidSample (without_frames from to sample)
+pub cut_kept : (from to : ℕ) (sample : Sample) → from ≤ to → IsValidSample sample
+    → IsValidSample (without_frames from to sample)
 cut_kept from to sample order v =
     refit_valid (take from sample.frames ++ drop to sample.frames) sample v (record {
       few = omega (
@@ -205,7 +222,8 @@ paste_kept at new sample few fits v =
 
 -- as many frames, in the same width
 same_frames : (frames : List ℤ) (sample : Sample) → length frames ≡ length sample.frames
-    → All (FitsSigned (width_of sample.wide)) frames → IsValidSample sample → IsValidSample (record sample { frames = frames })
+    → All (FitsSigned (width_of sample.wide)) frames → IsValidSample sample
+        → IsValidSample (record sample { frames = frames })
 same_frames frames sample same fits v = record {
   name = v.name;
   volume = v.volume;
@@ -217,7 +235,8 @@ same_frames frames sample same fits v = record {
   frames = fits;
 }
 
-stretch_length : (change : List ℤ → List ℤ) (from to : ℕ) (frames : List ℤ) → ((xs : List ℤ) → length (change xs) ≡ length xs)
+stretch_length : (change : List ℤ → List ℤ) (from to : ℕ) (frames : List ℤ)
+    → ((xs : List ℤ) → length (change xs) ≡ length xs)
     → from ≤ to → to ≤ length frames → length (with_stretch from to change frames) ≡ length frames
 stretch_length change from to frames same order below =
     omega (
@@ -238,28 +257,33 @@ all-reverse-aux P [] back all more = more
 all-reverse-aux P (x ∷ xs) back all more =
     all-reverse-aux P xs (x ∷ back) (All-tail P x xs all) (All-cons P x back (All-head P x xs all) more)
 
-pub turned_kept : (from to : ℕ) (sample : Sample) → from ≤ to → to ≤ length sample.frames → IsValidSample sample → IsValidSample (turned from to sample)
+pub turned_kept : (from to : ℕ) (sample : Sample) → from ≤ to → to ≤ length sample.frames → IsValidSample sample
+    → IsValidSample (turned from to sample)
 turned_kept from to sample order below v =
     same_frames (with_stretch from to reverse sample.frames) sample
     (stretch_length reverse from to sample.frames (λ xs. length-reverse xs) order below)
     (all-stretch (FitsSigned (width_of sample.wide)) reverse from to sample.frames v.frames
-    (λ xs all. all-reverse-aux (FitsSigned (width_of sample.wide)) xs [] all (All-nil (FitsSigned (width_of sample.wide))))) v
+    (λ xs all. all-reverse-aux (FitsSigned (width_of sample.wide)) xs [] all (All-nil (FitsSigned (width_of sample.wide)))))
+        v
 
 clamped_fits : (wide : Bool) (x : ℤ) → FitsSigned (width_of wide) (clamped wide x)
 clamped_fits true x = grind (arith, ints)
 clamped_fits false x = grind (arith, ints)
 
-pub scaled_kept : (from to : ℕ) (n : ℤ) (d : ℕ) (sample : Sample) → from ≤ to → to ≤ length sample.frames → IsValidSample sample
+pub scaled_kept : (from to : ℕ) (n : ℤ) (d : ℕ) (sample : Sample) → from ≤ to → to ≤ length sample.frames
+    → IsValidSample sample
     → IsValidSample (scaled from to n d sample)
 scaled_kept from to n d sample order below v =
     let change : ℤ → ℤ = scaled_frame sample.wide n d in
     same_frames (with_stretch from to (map change) sample.frames) sample
     (stretch_length (map change) from to sample.frames (λ xs. length-map xs change) order below)
     (all-stretch (FitsSigned (width_of sample.wide)) (map change) from to sample.frames v.frames
-    (λ xs all. All-map (FitsSigned (width_of sample.wide)) change xs (λ k d2 lt. clamped_fits sample.wide (floor_of (_ *ℤ n) d)))) v
+    (λ xs all. All-map (FitsSigned (width_of sample.wide)) change xs (λ k d2 lt. clamped_fits sample.wide (floor_of (_ *ℤ n) d))))
+        v
 
 other_width : (wide : Bool) (frames : List ℤ) (sample : Sample) → length frames ≡ length sample.frames
-    → All (FitsSigned (width_of wide)) frames → IsValidSample sample → IsValidSample (record sample { wide = wide; frames = frames })
+    → All (FitsSigned (width_of wide)) frames → IsValidSample sample
+        → IsValidSample (record sample { wide = wide; frames = frames })
 other_width wide frames sample same fits v = record {
   name = v.name;
   volume = v.volume;
@@ -280,15 +304,19 @@ narrow_fits (negsuc n) fits = omega (arith, ints)
 
 widened_kept : (sample : Sample) → sample.wide ≡ false → IsValidSample sample → IsValidSample (widened sample)
 widened_kept sample is v =
-    let old : All (FitsSigned w8) sample.frames = subst (λ (b : Bool). All (FitsSigned (width_of b)) sample.frames) is v.frames in
-    other_width true (map (λ frame. pos 256 *ℤ frame) sample.frames) sample (length-map sample.frames (λ frame. pos 256 *ℤ frame))
+    let old : All (FitsSigned w8) sample.frames =
+        subst (λ (b : Bool). All (FitsSigned (width_of b)) sample.frames) is v.frames in
+    other_width true (map (λ frame. pos 256 *ℤ frame) sample.frames) sample
+        (length-map sample.frames (λ frame. pos 256 *ℤ frame))
     (All-map (FitsSigned w16) (λ frame. pos 256 *ℤ frame) sample.frames
     (λ k d lt. wide_fits _ (old k d lt))) v
 
 narrowed_kept : (sample : Sample) → sample.wide ≡ true → IsValidSample sample → IsValidSample (narrowed sample)
 narrowed_kept sample is v =
-    let old : All (FitsSigned w16) sample.frames = subst (λ (b : Bool). All (FitsSigned (width_of b)) sample.frames) is v.frames in
-    other_width false (map (λ frame. floor_of frame 256) sample.frames) sample (length-map sample.frames (λ frame. floor_of frame 256))
+    let old : All (FitsSigned w16) sample.frames =
+        subst (λ (b : Bool). All (FitsSigned (width_of b)) sample.frames) is v.frames in
+    other_width false (map (λ frame. floor_of frame 256) sample.frames) sample
+        (length-map sample.frames (λ frame. floor_of frame 256))
     (All-map (FitsSigned w8) (λ frame. floor_of frame 256) sample.frames
     (λ k d lt. narrow_fits _ (old k d lt))) v
 
@@ -309,7 +337,8 @@ narrow_frame (pos n) holds = let h : n ≤ 127 = most n 127 holds in omega (arit
 narrow_frame (negsuc n) holds = let h : n ≤ 127 = most n 127 holds in omega (arith, ints)
 
 next_narrow : (b : Bool) (frame : ℤ) (frames : List ℤ) → is_narrow frame ≡ b
-    → cond b (narrow_frames frames) (Some (Range 16 frame)) ≡ None → (FitsSigned w8 frame) × (narrow_frames frames ≡ None)
+    → cond b (narrow_frames frames) (Some (Range 16 frame)) ≡ None
+        → (FitsSigned w8 frame) × (narrow_frames frames ≡ None)
 next_narrow true frame frames is none = (narrow_frame frame is, none)
 next_narrow false frame frames is none = absurd cc
 

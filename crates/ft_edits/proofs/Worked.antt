@@ -27,7 +27,11 @@ song kind start len frames = record {
   tempo = 6;
   bpm = 125;
   orders = 0 ∷ [];
-  patterns = record { rows = 4; cells = record { note = 49; instrument = 1; volume = 0; effect = 0; parameter = 0 } ∷ replicate 7 empty_cell } ∷ [];
+  patterns =
+      record {
+        rows = 4;
+        cells = record { note = 49; instrument = 1; volume = 0; effect = 0; parameter = 0 } ∷ replicate 7 empty_cell;
+      } ∷ [];
   instruments = record (named_only []) {
     samples = record new_sample { loop_kind = kind; loop_start = start; loop_len = len; frames = frames } ∷ [];
   } ∷ [];
@@ -122,10 +126,12 @@ cut_frames = refl
 turned_frames : frames (edited plain (edits.Reverse 1 0 0 4)) ≡ pos 8 ∷ pos 16 ∷ pos 32 ∷ pos 64 ∷ []
 turned_frames = refl
 
-by_minus_a_half : frames (edited plain (edits.Scale 1 0 0 4 (negsuc 0) 2)) ≡ negsuc 31 ∷ negsuc 15 ∷ negsuc 7 ∷ negsuc 3 ∷ []
+by_minus_a_half :
+    frames (edited plain (edits.Scale 1 0 0 4 (negsuc 0) 2)) ≡ negsuc 31 ∷ negsuc 15 ∷ negsuc 7 ∷ negsuc 3 ∷ []
 by_minus_a_half = refl
 
-rounded_down : frames (edited plain (edits.Scale 1 0 0 4 (negsuc 0) 100)) ≡ negsuc 0 ∷ negsuc 0 ∷ negsuc 0 ∷ negsuc 0 ∷ []
+rounded_down :
+    frames (edited plain (edits.Scale 1 0 0 4 (negsuc 0) 100)) ≡ negsuc 0 ∷ negsuc 0 ∷ negsuc 0 ∷ negsuc 0 ∷ []
 rounded_down = refl
 
 three_times : frames (edited plain (edits.Scale 1 0 0 4 (pos 3) 1)) ≡ pos 127 ∷ pos 96 ∷ pos 48 ∷ pos 24 ∷ []
@@ -134,7 +140,8 @@ three_times = refl
 wide_frames : frames (edited plain (edits.Bits 1 0 16)) ≡ pos 16384 ∷ pos 8192 ∷ pos 4096 ∷ pos 2048 ∷ []
 wide_frames = refl
 
-pasted : frames (edited plain (edits.Paste 1 0 4 (negsuc 127 ∷ []))) ≡ pos 64 ∷ pos 32 ∷ pos 16 ∷ pos 8 ∷ negsuc 127 ∷ []
+pasted :
+    frames (edited plain (edits.Paste 1 0 4 (negsuc 127 ∷ []))) ≡ pos 64 ∷ pos 32 ∷ pos 16 ∷ pos 8 ∷ negsuc 127 ∷ []
 pasted = refl
 
 -- a loop over the last two of four frames, of which one is left, and then none

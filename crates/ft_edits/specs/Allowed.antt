@@ -8,7 +8,8 @@ use Rattle.ft_edits.specs.Faults.{frames_at}
 
 -- the block lies within the pattern
 abbrev pub HasBlock : Module → ℕ → ℕ → ℕ → ℕ → ℕ → Type 0
-HasBlock song p r c h w = (p < length song.patterns) × (r + h ≤ rows_at song p) × (c + w ≤ song.channels)
+HasBlock song p r c h w =
+    (p < length song.patterns) × (r + h ≤ rows_at song p) × (c + w ≤ song.channels)
 
 -- the frames are there, in an instrument; they count from 1
 abbrev pub HasFrames : Module → ℕ → ℕ → ℕ → ℕ → Type 0

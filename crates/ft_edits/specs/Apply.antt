@@ -22,7 +22,8 @@ pub record BatchRefusal : Type 0 where
   pub fault : EditFault
 
 -- the edits one after the other, counted from a place
-abbrev pub go_on : ℕ → (Module → Result Module BatchRefusal) → Result Module EditFault → Result Module BatchRefusal
+abbrev pub go_on : ℕ → (Module → Result Module BatchRefusal) → Result Module EditFault
+    → Result Module BatchRefusal
 go_on at rest (Ok song) = rest song
 go_on at rest (Err fault) = Err (record { at = at; fault = fault })
 

@@ -40,7 +40,8 @@ order_below limit position = unless (nat_lt position limit) (NoOrder position)
 
 -- the number of this field is in a range
 abbrev pub within : ℕ → ℕ → ℕ → ℕ → Option EditFault
-within field low high found = unless (nat_le low found && nat_le found high) (Range field (pos found))
+within field low high found =
+    unless (nat_le low found && nat_le found high) (Range field (pos found))
 
 -- one more would not be too many
 abbrev pub room_for : ℕ → ℕ → ℕ → Option EditFault
@@ -85,7 +86,8 @@ is_narrow (negsuc n) = nat_le n 127
 -- the first frame that isn't one
 abbrev pub narrow_frames : List ℤ → Option EditFault
 narrow_frames [] = None
-narrow_frames (frame ∷ frames) = if is_narrow frame then narrow_frames frames else Some (Range 16 frame)
+narrow_frames (frame ∷ frames) =
+    if is_narrow frame then narrow_frames frames else Some (Range 16 frame)
 
 -- ---- groups of them
 
@@ -109,7 +111,9 @@ sampled song i s causes = instrument_of song i ∷ sample_of song i s ∷ causes
 -- frames of a sample
 abbrev pub framed : Module → ℕ → ℕ → ℕ → ℕ → List (Option EditFault) → List (Option EditFault)
 framed song i s from to causes =
-    sampled song i s (unless (nat_le from to && nat_le to (frames_at song i s)) (Cut from to (frames_at song i s)) ∷ causes)
+    sampled song i s
+        (unless (nat_le from to && nat_le to (frames_at song i s))
+            (Cut from to (frames_at song i s)) ∷ causes)
 
 -- how many frames a sample has at most
 abbrev pub most_frames : ℕ
@@ -132,7 +136,8 @@ causes_of song (edits.Order position p) = order_below (length song.orders) posit
 causes_of song (edits.Insorder position p) =
     order_below (length song.orders + 1) position ∷ room_for 1 256 (length song.orders + 1) ∷ []
 causes_of song (edits.Delorder position) =
-    order_below (length song.orders) position ∷ unless (nat_lt 1 (length song.orders)) (Range 17 (pos 0)) ∷ []
+    order_below (length song.orders) position
+        ∷ unless (nat_lt 1 (length song.orders)) (Range 17 (pos 0)) ∷ []
 causes_of song (edits.Restart position) = order_below (length song.orders) position ∷ []
 causes_of song (edits.Tempo n) = within 4 1 31 n ∷ []
 causes_of song (edits.Bpm n) = within 5 32 255 n ∷ []
@@ -145,8 +150,11 @@ causes_of song (edits.Clearins i) = instrument_of song i ∷ []
 causes_of song (edits.Insname i name) = instrument_of song i ∷ []
 causes_of song (edits.Map i n k) = sounding song i (within 7 0 95 n ∷ within 13 0 15 k ∷ [])
 causes_of song (edits.Env i w count sus ls le flags) =
-    sounding song i (within 18 0 1 w ∷ within 6 0 12 count ∷ within 7 0 11 sus ∷ within 7 0 11 ls ∷ within 7 0 11 le ∷ within 8 0 7 flags ∷ [])
-causes_of song (edits.Point i w k x y) = sounding song i (within 18 0 1 w ∷ within 7 0 11 k ∷ within 9 0 64 y ∷ [])
+    sounding song i
+        (within 18 0 1 w ∷ within 6 0 12 count ∷ within 7 0 11 sus ∷ within 7 0 11 ls
+            ∷ within 7 0 11 le ∷ within 8 0 7 flags ∷ [])
+causes_of song (edits.Point i w k x y) =
+    sounding song i (within 18 0 1 w ∷ within 7 0 11 k ∷ within 9 0 64 y ∷ [])
 causes_of song (edits.Vib i kind sweep depth rate) =
     sounding song i (within 10 0 3 kind ∷ within 11 0 15 depth ∷ within 12 0 63 rate ∷ [])
 causes_of song (edits.Fade i n) = sounding song i []
@@ -157,7 +165,8 @@ causes_of song (edits.Smpname i s name) = sampled song i s []
 causes_of song (edits.Smp i s vol fine rel pan) = sampled song i s (within 9 0 64 vol ∷ [])
 causes_of song (edits.Loop i s kind start len) =
     sampled song i s (within 10 0 2 kind
-    ∷ unless (nat_eq kind 0 || (nat_lt 0 len && nat_le (start + len) (frames_at song i s))) (Cut start (start + len) (frames_at song i s))
+    ∷ unless (nat_eq kind 0 || (nat_lt 0 len && nat_le (start + len) (frames_at song i s)))
+        (Cut start (start + len) (frames_at song i s))
     ∷ [])
 -- frames
 causes_of song (edits.Cut i s from to) = framed song i s from to []
@@ -166,8 +175,10 @@ causes_of song (edits.Paste i s at frames) =
     ∷ (if wide_at song i s then None else narrow_frames frames)
     ∷ [])
 causes_of song (edits.Reverse i s from to) = framed song i s from to []
-causes_of song (edits.Scale i s from to n d) = framed song i s from to (unless (nat_lt 0 d) (Range 14 (pos 0)) ∷ [])
-causes_of song (edits.Bits i s b) = sampled song i s (unless (nat_eq b 8 || nat_eq b 16) (Range 15 (pos b)) ∷ [])
+causes_of song (edits.Scale i s from to n d) =
+    framed song i s from to (unless (nat_lt 0 d) (Range 14 (pos 0)) ∷ [])
+causes_of song (edits.Bits i s b) =
+    sampled song i s (unless (nat_eq b 8 || nat_eq b 16) (Range 15 (pos b)) ∷ [])
 
 -- the fault of an edit of a song, if there is one
 abbrev pub fault_of : Module → Edit → Option EditFault

@@ -7,7 +7,8 @@ use Rattle.ft_types.specs.declared.edit.Edit.TheVariants as edits
 
 -- the numbers that no fault bounds fit their fields
 abbrev pub HoldsFields : Edit → Type 0
-HoldsFields (edits.Cell p r c note ins vol eff par) = (ins < 256) × (vol < 256) × (eff < 256) × (par < 256)
+HoldsFields (edits.Cell p r c note ins vol eff par) =
+    (ins < 256) × (vol < 256) × (eff < 256) × (par < 256)
 HoldsFields (edits.Order position p) = p < 256
 HoldsFields (edits.Insorder position p) = p < 256
 HoldsFields (edits.Title name) = IsBytes 20 name

@@ -9,7 +9,8 @@ use Rattle.ft_edits.specs.Lists.{changed_at}
 
 -- the instrument of a number changed; they count from 1
 abbrev pub with_instrument : ℕ → (Instrument → Instrument) → Module → Module
-with_instrument i change song = record song { instruments = changed_at (i - 1) change song.instruments }
+with_instrument i change song =
+    record song { instruments = changed_at (i - 1) change song.instruments }
 
 -- ---- an instrument that says nothing but its name
 
@@ -17,7 +18,15 @@ abbrev pub zero_point : Point
 zero_point = record { x = 0; y = 0 }
 
 abbrev pub zero_envelope : Envelope
-zero_envelope = record { points = replicate 12 zero_point; count = 0; sustain = 0; loop_start = 0; loop_end = 0; flags = 0 }
+zero_envelope =
+    record {
+      points = replicate 12 zero_point;
+      count = 0;
+      sustain = 0;
+      loop_start = 0;
+      loop_end = 0;
+      flags = 0;
+    }
 
 abbrev pub zero_vibrato : Vibrato
 zero_vibrato = record { kind = 0; sweep = 0; depth = 0; rate = 0 }
@@ -46,7 +55,8 @@ with_map n k instrument = record instrument { map = set instrument.map n k }
 -- which is 0 for the volume envelope, and 1 for that of the panning
 abbrev pub with_envelope : ℕ → (Envelope → Envelope) → Instrument → Instrument
 with_envelope which change instrument =
-    if which == 0 then record instrument { volume = change instrument.volume } else record instrument { panning = change instrument.panning }
+    if which == 0 then record instrument { volume = change instrument.volume }
+        else record instrument { panning = change instrument.panning }
 
 abbrev pub with_head : ℕ → ℕ → ℕ → ℕ → ℕ → Envelope → Envelope
 with_head count sus ls le flags envelope =

@@ -13,7 +13,9 @@ use Rattle.ft_edits.specs.Allowed.{Allows}
 
 -- an edit of a valid song that isn't refused gives a valid song
 abbrev pub EditedIsValid : Type 0
-EditedIsValid = (song : Module) (edit : Edit) → IsValid song → HoldsFields edit → fault_of song edit ≡ None → IsValid (edited song edit)
+EditedIsValid =
+    (song : Module) (edit : Edit) → IsValid song → HoldsFields edit → fault_of song edit ≡ None
+    → IsValid (edited song edit)
 
 -- an edit that isn't refused names what is there
 abbrev pub AllowedIsThere : Type 0
@@ -21,13 +23,18 @@ AllowedIsThere = (song : Module) (edit : Edit) → fault_of song edit ≡ None �
 
 -- so does `apply`
 abbrev pub AppliedIsValid : Type 0
-AppliedIsValid = (song next : Module) (edit : Edit) → IsValid song → HoldsFields edit → apply song edit ≡ Ok next → IsValid next
+AppliedIsValid =
+    (song next : Module) (edit : Edit) → IsValid song → HoldsFields edit → apply song edit ≡ Ok next
+    → IsValid next
 
 -- and a batch
 abbrev pub BatchIsValid : Type 0
-BatchIsValid = (song next : Module) (batch : List Edit) → IsValid song → All HoldsFields batch → apply_batch song batch ≡ Ok next → IsValid next
+BatchIsValid =
+    (song next : Module) (batch : List Edit) → IsValid song → All HoldsFields batch
+    → apply_batch song batch ≡ Ok next → IsValid next
 
 -- and each version of a journal
 abbrev pub VersionsAreValid : Type 0
 VersionsAreValid = (song : Module) (entries : List Entry) (version : ℕ) → IsValid song
-    → All (λ (entry : Entry). All HoldsFields entry.batch) entries → IsValid (module_at song entries version)
+    → All (λ (entry : Entry). All HoldsFields entry.batch) entries
+        → IsValid (module_at song entries version)

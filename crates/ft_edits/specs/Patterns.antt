@@ -23,16 +23,25 @@ with_cell channels r c cell = with_cells (λ cells. set cells (r * channels + c)
 
 -- so many rows: cut, or filled with empty ones
 abbrev pub with_rows : ℕ → ℕ → Pattern → Pattern
-with_rows channels n pattern = record { rows = n; cells = take (n * channels) (pattern.cells ++ empty_rows channels n) }
+with_rows channels n pattern =
+    record { rows = n; cells = take (n * channels) (pattern.cells ++ empty_rows channels n) }
 
 -- an empty row before a row, and the last one drops out
 abbrev pub with_new_row : ℕ → ℕ → Pattern → Pattern
 with_new_row channels r pattern =
-    with_cells (λ cells. take (length cells) (take (r * channels) cells ++ (empty_rows channels 1 ++ drop (r * channels) cells))) pattern
+    with_cells
+        (λ cells.
+            take (length cells)
+            (take (r * channels) cells ++ (empty_rows channels 1 ++ drop (r * channels) cells)))
+        pattern
 
 -- a row goes, and an empty one comes last
 abbrev pub without_row : ℕ → ℕ → Pattern → Pattern
-without_row channels r = with_cells (λ cells. take (r * channels) cells ++ (drop (r * channels + channels) cells ++ empty_rows channels 1))
+without_row channels r =
+    with_cells
+    (λ cells.
+        take (r * channels) cells
+        ++ (drop (r * channels + channels) cells ++ empty_rows channels 1))
 
 abbrev pub empty_pattern : ℕ → ℕ → Pattern
 empty_pattern channels n = record { rows = n; cells = empty_rows channels n }
@@ -40,13 +49,15 @@ empty_pattern channels n = record { rows = n; cells = empty_rows channels n }
 -- ---- blocks: h rows of w channels from row r and channel c
 
 abbrev pub in_block : ℕ → ℕ → ℕ → ℕ → ℕ → ℕ → Bool
-in_block r c h w row channel = nat_le r row && nat_lt row (r + h) && nat_le c channel && nat_lt channel (c + w)
+in_block r c h w row channel =
+    nat_le r row && nat_lt row (r + h) && nat_le c channel && nat_lt channel (c + w)
 
 -- each cell of a block changed by its row, its channel and itself
 abbrev pub with_block : ℕ → ℕ → ℕ → ℕ → ℕ → (ℕ → ℕ → Cell → Cell) → Pattern → Pattern
 with_block channels r c h w change =
     with_cells (each_from (λ place cell.
-    if in_block r c h w (place / channels) (place % channels) then change (place / channels) (place % channels) cell else cell) 0)
+    if in_block r c h w (place / channels) (place % channels)
+        then change (place / channels) (place % channels) cell else cell) 0)
 
 abbrev pub is_note : ℤ → Bool
 is_note (pos note) = nat_lt 0 note && nat_le note 96
@@ -54,7 +65,8 @@ is_note (negsuc below) = false
 
 -- a note moved by so many semitones, where it stays one; other notes stay as they are
 abbrev pub moved_note : ℤ → ℕ → ℕ
-moved_note d note = if is_note (pos note) && is_note (pos note +ℤ d) then nat_abs (pos note +ℤ d) else note
+moved_note d note =
+    if is_note (pos note) && is_note (pos note +ℤ d) then nat_abs (pos note +ℤ d) else note
 
 abbrev pub moved : ℤ → Cell → Cell
 moved d cell = record cell { note = moved_note d cell.note }

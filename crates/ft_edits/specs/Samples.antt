@@ -10,7 +10,9 @@ use Rattle.ft_edits.specs.Instruments.{with_instrument, named_only}
 -- the sample of a number, from 0, of an instrument, from 1, changed
 abbrev pub with_sample : ℕ → ℕ → (Sample → Sample) → Module → Module
 with_sample i s change =
-    with_instrument i (λ (instrument : Instrument). record instrument { samples = changed_at s change instrument.samples })
+    with_instrument i
+        (λ (instrument : Instrument).
+            record instrument { samples = changed_at s change instrument.samples })
 
 -- ---- samples of an instrument
 
@@ -61,11 +63,13 @@ with_frames change sample = record sample { frames = change sample.frames }
 
 -- the frames from one up to another go
 abbrev pub without_frames : ℕ → ℕ → Sample → Sample
-without_frames from to sample = refitted (with_frames (λ frames. take from frames ++ drop to frames) sample)
+without_frames from to sample =
+    refitted (with_frames (λ frames. take from frames ++ drop to frames) sample)
 
 -- frames come before one
 abbrev pub with_new_frames : ℕ → List ℤ → Sample → Sample
-with_new_frames at new sample = refitted (with_frames (λ frames. take at frames ++ (new ++ drop at frames)) sample)
+with_new_frames at new sample =
+    refitted (with_frames (λ frames. take at frames ++ (new ++ drop at frames)) sample)
 
 abbrev pub turned : ℕ → ℕ → Sample → Sample
 turned from to = with_frames (with_stretch from to reverse)
@@ -76,21 +80,27 @@ floor_of x d = int_div_euclid x (pos d)
 
 -- brought into the range of 8 or 16 bits
 abbrev pub clamped : Bool → ℤ → ℤ
-clamped wide x = if wide then int_max (negsuc 32767) (int_min x (pos 32767)) else int_max (negsuc 127) (int_min x (pos 127))
+clamped wide x =
+    if wide then int_max (negsuc 32767) (int_min x (pos 32767))
+    else int_max (negsuc 127) (int_min x (pos 127))
 
 abbrev pub scaled_frame : Bool → ℤ → ℕ → ℤ → ℤ
 scaled_frame wide n d x = clamped wide (floor_of (x *ℤ n) d)
 
 abbrev pub scaled : ℕ → ℕ → ℤ → ℕ → Sample → Sample
-scaled from to n d sample = with_frames (with_stretch from to (map (scaled_frame sample.wide n d))) sample
+scaled from to n d sample =
+    with_frames (with_stretch from to (map (scaled_frame sample.wide n d))) sample
 
 abbrev pub widened : Sample → Sample
-widened sample = record sample { wide = true; frames = map (λ frame. pos 256 *ℤ frame) sample.frames }
+widened sample =
+    record sample { wide = true; frames = map (λ frame. pos 256 *ℤ frame) sample.frames }
 
 abbrev pub narrowed : Sample → Sample
-narrowed sample = record sample { wide = false; frames = map (λ frame. floor_of frame 256) sample.frames }
+narrowed sample =
+    record sample { wide = false; frames = map (λ frame. floor_of frame 256) sample.frames }
 
 -- frames of 8 or 16 bits; those that have this width already stay as they are
 abbrev pub with_bits : ℕ → Sample → Sample
 with_bits b sample =
-    if b == 16 then (if sample.wide then sample else widened sample) else (if sample.wide then narrowed sample else sample)
+    if b == 16 then (if sample.wide then sample else widened sample)
+        else (if sample.wide then narrowed sample else sample)

@@ -47,7 +47,8 @@ record Sums (a b c d e n : ℕ) : Type 0 where
   four : (128 + n) / 8 % 2 ≡ d
   five : (128 + n) / 16 % 2 ≡ e
 
-sums : (a b c d e n : ℕ) → a ≤ 1 → b ≤ 1 → c ≤ 1 → d ≤ 1 → e ≤ 1 → n ≡ a + 2 * (b + 2 * (c + 2 * (d + 2 * (e + 0)))) → Sums a b c d e n
+sums : (a b c d e n : ℕ) → a ≤ 1 → b ≤ 1 → c ≤ 1 → d ≤ 1 → e ≤ 1 → n ≡ a + 2 * (b + 2 * (c + 2 * (d + 2 * (e + 0))))
+    → Sums a b c d e n
 sums a b c d e n la lb lc ld le is = record {
   small = omega (arith, la, lb, lc, ld, le, is);
   one = omega (arith, la, lb, lc, ld, le, is);
@@ -60,7 +61,9 @@ sums a b c d e n la lb lc ld le is = record {
 bits : (a b c d e : Bool) → Bits a b c d e (mask a b c d e)
 bits a b c d e =
     let n = bit a + 2 * (bit b + 2 * (bit c + 2 * (bit d + 2 * (bit e + 0)))) in
-    let s = sums (bit a) (bit b) (bit c) (bit d) (bit e) n (bit_low a) (bit_low b) (bit_low c) (bit_low d) (bit_low e) refl in
+    let s =
+        sums (bit a) (bit b) (bit c) (bit d) (bit e) n (bit_low a) (bit_low b) (bit_low c) (bit_low d) (bit_low e) refl
+        in
     record {
       small = omega (arith, s.small);
       high = not_low n;
@@ -74,9 +77,11 @@ bits a b c d e =
 -- ---- a cell behind a mask, and one without
 
 abbrev make : ℕ → ℕ → ℕ → ℕ → ℕ → Cell
-make note instrument volume effect parameter = record { note = note; instrument = instrument; volume = volume; effect = effect; parameter = parameter }
+make note instrument volume effect parameter =
+    record { note = note; instrument = instrument; volume = volume; effect = effect; parameter = parameter }
 
-masked_fits : (a b c d e : Bool) (first n i v f p : ℕ) → Bits a b c d e first → IsByteIf a n → IsByteIf b i → IsByteIf c v → IsByteIf d f → IsByteIf e p → RawCellFits (record { first = first; cell = make n i v f p })
+masked_fits : (a b c d e : Bool) (first n i v f p : ℕ) → Bits a b c d e first → IsByteIf a n → IsByteIf b i
+    → IsByteIf c v → IsByteIf d f → IsByteIf e p → RawCellFits (record { first = first; cell = make n i v f p })
 masked_fits a b c d e first n i v f p s fn fi fv ff fp = record {
   first = omega (arith, s.small);
   note = rw (s.high, s.note) fn;
@@ -93,7 +98,8 @@ byte_if_fits : (b : Bool) (x : ℕ) → is_set x ≡ b → x < 256 → IsByteIf 
 byte_if_fits true x e lt = omega (arith, lt)
 byte_if_fits false x e lt = unset x e
 
-bare_fits : (n i v f p : ℕ) → nat_lt n 128 ≡ true → n < 256 → i < 256 → v < 256 → f < 256 → p < 256 → RawCellFits (record { first = n; cell = make n i v f p })
+bare_fits : (n i v f p : ℕ) → nat_lt n 128 ≡ true → n < 256 → i < 256 → v < 256 → f < 256 → p < 256
+    → RawCellFits (record { first = n; cell = make n i v f p })
 bare_fits n i v f p low ln li lv lf lp = record {
   first = omega (arith, ln);
   note = rw low refl;
@@ -111,12 +117,18 @@ low_note n le = grind (arith, nat_tests)
 abbrev first_if : Bool → Cell → ℕ
 first_if full cell = cond full cell.note (128 + mask_of (bytes_of_cell cell))
 
-cell_step_fits : (full : Bool) (cell : Cell) → IsValidCell cell → RawCellFits (record { first = first_if full cell; cell = cell })
-cell_step_fits true cell v = bare_fits cell.note cell.instrument cell.volume cell.effect cell.parameter (low_note cell.note v.note) (omega (arith, v.note)) v.instrument v.volume v.effect v.parameter
+cell_step_fits : (full : Bool) (cell : Cell) → IsValidCell cell
+    → RawCellFits (record { first = first_if full cell; cell = cell })
+cell_step_fits true cell v =
+    bare_fits cell.note cell.instrument cell.volume cell.effect cell.parameter (low_note cell.note v.note)
+    (omega (arith, v.note)) v.instrument v.volume v.effect v.parameter
 cell_step_fits false cell v =
-    masked_fits (is_set cell.note) (is_set cell.instrument) (is_set cell.volume) (is_set cell.effect) (is_set cell.parameter) (128 + mask_of (bytes_of_cell cell)) cell.note cell.instrument cell.volume cell.effect cell.parameter
+    masked_fits (is_set cell.note) (is_set cell.instrument) (is_set cell.volume) (is_set cell.effect)
+        (is_set cell.parameter) (128 + mask_of (bytes_of_cell cell)) cell.note cell.instrument cell.volume cell.effect
+        cell.parameter
     (bits (is_set cell.note) (is_set cell.instrument) (is_set cell.volume) (is_set cell.effect) (is_set cell.parameter))
-    (byte_if_fits _ cell.note refl (omega (arith, v.note))) (byte_if_fits _ cell.instrument refl v.instrument) (byte_if_fits _ cell.volume refl v.volume)
+    (byte_if_fits _ cell.note refl (omega (arith, v.note))) (byte_if_fits _ cell.instrument refl v.instrument)
+        (byte_if_fits _ cell.volume refl v.volume)
     (byte_if_fits _ cell.effect refl v.effect) (byte_if_fits _ cell.parameter refl v.parameter)
 
 pub cell_fits : (cell : Cell) → IsValidCell cell → RawCellFits (raw_cell_of cell)
@@ -126,4 +138,5 @@ kept_note : (n : ℕ) → n ≤ 97 → cond (nat_le n 97) n 0 ≡ n
 kept_note n le = grind (arith, nat_tests)
 
 pub cell_means : (cell : Cell) → IsValidCell cell → cell_of (raw_cell_of cell) ≡ cell
-cell_means cell v = ap (λ (note : ℕ). make note cell.instrument cell.volume cell.effect cell.parameter) (kept_note cell.note v.note)
+cell_means cell v =
+    ap (λ (note : ℕ). make note cell.instrument cell.volume cell.effect cell.parameter) (kept_note cell.note v.note)

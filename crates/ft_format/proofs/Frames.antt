@@ -19,19 +19,27 @@ wide_signed n lt = search rules
 
 sums_small_8 : (before : ℕ) (steps : List ℕ) → All (λ x. x < 256) (sums_from 256 before steps)
 sums_small_8 before [] = All-nil _
-sums_small_8 before (step ∷ steps) = All-cons (λ x. x < 256) ((before + step) % 256) (sums_from 256 ((before + step) % 256) steps) (omega arith) (sums_small_8 ((before + step) % 256) steps)
+sums_small_8 before (step ∷ steps) =
+    All-cons (λ x. x < 256) ((before + step) % 256) (sums_from 256 ((before + step) % 256) steps) (omega arith)
+    (sums_small_8 ((before + step) % 256) steps)
 
 sums_small_16 : (before : ℕ) (steps : List ℕ) → All (λ x. x < 65536) (sums_from 65536 before steps)
 sums_small_16 before [] = All-nil _
-sums_small_16 before (step ∷ steps) = All-cons (λ x. x < 65536) ((before + step) % 65536) (sums_from 65536 ((before + step) % 65536) steps) (omega arith) (sums_small_16 ((before + step) % 65536) steps)
+sums_small_16 before (step ∷ steps) =
+    All-cons (λ x. x < 65536) ((before + step) % 65536) (sums_from 65536 ((before + step) % 65536) steps) (omega arith)
+    (sums_small_16 ((before + step) % 65536) steps)
 
 pub narrow_fit : (steps : List ℕ) → All (FitsSigned w8) (narrow_frames steps)
 unfolding narrow_frames
-narrow_fit steps = All-map (FitsSigned w8) (cast_signed w8) (sums_from 256 0 steps) (λ k d lt. narrow_signed _ (sums_small_8 0 steps k d lt))
+narrow_fit steps =
+    All-map (FitsSigned w8) (cast_signed w8) (sums_from 256 0 steps)
+    (λ k d lt. narrow_signed _ (sums_small_8 0 steps k d lt))
 
 pub wide_fit : (steps : List ℕ) → All (FitsSigned w16) (wide_frames steps)
 unfolding wide_frames
-wide_fit steps = All-map (FitsSigned w16) (cast_signed w16) (sums_from 65536 0 (pairs_of steps)) (λ k d lt. wide_signed _ (sums_small_16 0 (pairs_of steps) k d lt))
+wide_fit steps =
+    All-map (FitsSigned w16) (cast_signed w16) (sums_from 65536 0 (pairs_of steps))
+    (λ k d lt. wide_signed _ (sums_small_16 0 (pairs_of steps) k d lt))
 
 length_sums : (span before : ℕ) (steps : List ℕ) → length (sums_from span before steps) ≡ length steps
 length_sums span before [] = refl
@@ -48,7 +56,9 @@ narrow_length steps = length-map (sums_from 256 0 steps) (cast_signed w8) ∙ le
 
 pub wide_length : (steps : List ℕ) → length (wide_frames steps) ≡ length steps / 2
 unfolding wide_frames
-wide_length steps = length-map (sums_from 65536 0 (pairs_of steps)) (cast_signed w16) ∙ length_sums 65536 0 (pairs_of steps) ∙ length_pairs steps
+wide_length steps =
+    length-map (sums_from 65536 0 (pairs_of steps)) (cast_signed w16) ∙ length_sums 65536 0 (pairs_of steps)
+    ∙ length_pairs steps
 
 -- ---- frames as they are written
 
@@ -68,7 +78,8 @@ back_16 before x b s = omega (arith, b, s)
 abbrev IsBack : ℕ → Type 0
 IsBack span = (before x : ℕ) → before < span → x < span → (before + (x + (span - before)) % span) % span ≡ x
 
-sums_steps : (span : ℕ) → IsBack span → (before : ℕ) (xs : List ℕ) → before < span → All (λ x. x < span) xs → sums_from span before (steps_from span before xs) ≡ xs
+sums_steps : (span : ℕ) → IsBack span → (before : ℕ) (xs : List ℕ) → before < span → All (λ x. x < span) xs
+    → sums_from span before (steps_from span before xs) ≡ xs
 sums_steps span back before [] b all = refl
 sums_steps span back before (x ∷ xs) b all =
     let lt = All-head (λ x. x < span) x xs all in
@@ -77,11 +88,14 @@ sums_steps span back before (x ∷ xs) b all =
 
 steps_small_8 : (before : ℕ) (xs : List ℕ) → All (λ x. x < 256) (steps_from 256 before xs)
 steps_small_8 before [] = All-nil _
-steps_small_8 before (x ∷ xs) = All-cons (λ x. x < 256) ((x + (256 - before)) % 256) (steps_from 256 x xs) (omega arith) (steps_small_8 x xs)
+steps_small_8 before (x ∷ xs) =
+    All-cons (λ x. x < 256) ((x + (256 - before)) % 256) (steps_from 256 x xs) (omega arith) (steps_small_8 x xs)
 
 steps_small_16 : (before : ℕ) (xs : List ℕ) → All (λ x. x < 65536) (steps_from 65536 before xs)
 steps_small_16 before [] = All-nil _
-steps_small_16 before (x ∷ xs) = All-cons (λ x. x < 65536) ((x + (65536 - before)) % 65536) (steps_from 65536 x xs) (omega arith) (steps_small_16 x xs)
+steps_small_16 before (x ∷ xs) =
+    All-cons (λ x. x < 65536) ((x + (65536 - before)) % 65536) (steps_from 65536 x xs) (omega arith)
+    (steps_small_16 x xs)
 
 length_steps : (span before : ℕ) (xs : List ℕ) → length (steps_from span before xs) ≡ length xs
 length_steps span before [] = refl
@@ -98,7 +112,9 @@ pairs_back (x ∷ xs) all =
 
 pairs_bytes : (xs : List ℕ) → All (λ x. x < 256) (flat_map u16 xs)
 pairs_bytes [] = All-nil _
-pairs_bytes (x ∷ xs) = All-cons (λ x. x < 256) (x % 256) (x / 256 % 256 ∷ flat_map u16 xs) (omega arith) (All-cons (λ x. x < 256) (x / 256 % 256) (flat_map u16 xs) (omega arith) (pairs_bytes xs))
+pairs_bytes (x ∷ xs) =
+    All-cons (λ x. x < 256) (x % 256) (x / 256 % 256 ∷ flat_map u16 xs) (omega arith)
+    (All-cons (λ x. x < 256) (x / 256 % 256) (flat_map u16 xs) (omega arith) (pairs_bytes xs))
 
 pairs_length : (xs : List ℕ) → length (flat_map u16 xs) ≡ 2 * length xs
 pairs_length [] = refl
@@ -113,15 +129,20 @@ wide_data frames = flat_map u16 (steps_from 65536 0 (map (cast_unsigned w16) fra
 pub narrow_back : (frames : List ℤ) → All (FitsSigned w8) frames → narrow_frames (narrow_data frames) ≡ frames
 unfolding narrow_frames
 narrow_back frames all =
-    ap (map (cast_signed w8)) (sums_steps 256 back_8 0 (map (cast_unsigned w8) frames) (omega arith) (All-map (λ x. x < 256) (cast_unsigned w8) frames (λ k d lt. narrow_unsigned _ (all k d lt))))
+    ap (map (cast_signed w8))
+        (sums_steps 256 back_8 0 (map (cast_unsigned w8) frames) (omega arith)
+            (All-map (λ x. x < 256) (cast_unsigned w8) frames (λ k d lt. narrow_unsigned _ (all k d lt))))
     ∙ map_back (cast_signed w8) (cast_unsigned w8) frames (λ k d lt. to_z-of_z w8 _ (all k d lt))
 
 pub wide_back : (frames : List ℤ) → All (FitsSigned w16) frames → wide_frames (wide_data frames) ≡ frames
 unfolding wide_frames
 wide_back frames all =
     let xs = map (cast_unsigned w16) frames in
-    ap (λ (l : List ℕ). map (cast_signed w16) (sums_from 65536 0 l)) (pairs_back (steps_from 65536 0 xs) (steps_small_16 0 xs))
-    ∙ ap (map (cast_signed w16)) (sums_steps 65536 back_16 0 xs (omega arith) (All-map (λ x. x < 65536) (cast_unsigned w16) frames (λ k d lt. wide_unsigned _ (all k d lt))))
+    ap (λ (l : List ℕ). map (cast_signed w16) (sums_from 65536 0 l))
+        (pairs_back (steps_from 65536 0 xs) (steps_small_16 0 xs))
+    ∙ ap (map (cast_signed w16))
+        (sums_steps 65536 back_16 0 xs (omega arith)
+            (All-map (λ x. x < 65536) (cast_unsigned w16) frames (λ k d lt. wide_unsigned _ (all k d lt))))
     ∙ map_back (cast_signed w16) (cast_unsigned w16) frames (λ k d lt. to_z-of_z w16 _ (all k d lt))
 
 pub narrow_data_length : (frames : List ℤ) → length (narrow_data frames) ≡ length frames
@@ -130,7 +151,8 @@ narrow_data_length frames = length_steps 256 0 (map (cast_unsigned w8) frames) �
 pub wide_data_length : (frames : List ℤ) → length (wide_data frames) ≡ 2 * length frames
 wide_data_length frames =
     let xs = map (cast_unsigned w16) frames in
-    pairs_length (steps_from 65536 0 xs) ∙ ap (λ (n : ℕ). 2 * n) (length_steps 65536 0 xs ∙ length-map frames (cast_unsigned w16))
+    pairs_length (steps_from 65536 0 xs)
+        ∙ ap (λ (n : ℕ). 2 * n) (length_steps 65536 0 xs ∙ length-map frames (cast_unsigned w16))
 
 pub narrow_data_bytes : (frames : List ℤ) → All (λ x. x < 256) (narrow_data frames)
 narrow_data_bytes frames = steps_small_8 0 (map (cast_unsigned w8) frames)

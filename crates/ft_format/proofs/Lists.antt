@@ -3,7 +3,8 @@ use Rattle.std.proofs.Common.{◌≡◌, List, [], ◌∷◌, ◌++◌, map, All
 use Rattle.std.specs.List.{flat_map}
 use Rattle.std.proofs.lemmas.List.Elements.{All-head, All-tail}
 
-pub flat_map_same : {A B : Type 0} (f g : A → List B) (xs : List A) → All (λ x. f x ≡ g x) xs → flat_map f xs ≡ flat_map g xs
+pub flat_map_same : {A B : Type 0} (f g : A → List B) (xs : List A) → All (λ x. f x ≡ g x) xs
+    → flat_map f xs ≡ flat_map g xs
 flat_map_same f g [] all = refl
 flat_map_same {B = B} f g (x ∷ xs) all =
     ap (λ (l : List B). l ++ flat_map f xs) (All-head (λ x. f x ≡ g x) x xs all)

@@ -24,10 +24,15 @@ use Rattle.ft_format.proofs.Instruments.{instrument_fits, instrument_means}
 -- ---- it fits
 
 table_length : (orders : List ℕ) → length orders ≤ 256 → length (order_table orders) ≡ 256
-table_length orders le = omega (arith, length-append orders (replicate (256 - length orders) 0), length-replicate {A = ℕ} (256 - length orders) 0)
+table_length orders le =
+    omega
+    (arith, length-append orders (replicate (256 - length orders) 0), length-replicate {A = ℕ} (256 - length orders) 0)
 
 table_bytes : (orders : List ℕ) → All (λ order. order < 256) orders → AreBytes (order_table orders)
-table_bytes orders h = bytes_of (order_table orders) (All-append (λ byte. byte < 256) orders (replicate (256 - length orders) 0) h (All-replicate (λ byte. byte < 256) (256 - length orders) 0 (omega arith)))
+table_bytes orders h =
+    bytes_of (order_table orders)
+    (All-append (λ byte. byte < 256) orders (replicate (256 - length orders) 0) h
+        (All-replicate (λ byte. byte < 256) (256 - length orders) 0 (omega arith)))
 
 small_flags : (linear : Bool) → cond linear 1 0 < 65536
 small_flags true = omega arith
@@ -59,9 +64,12 @@ song_fits song v = record {
   letter = inl refl;
   header = header_fits song v;
   patterns_count = length-map song.patterns raw_pattern_of;
-  patterns = All-map (RawPatternFits song.channels) raw_pattern_of song.patterns (λ k d lt. pattern_fits song.channels _ v.some_channels v.few_channels (v.patterns k d lt));
+  patterns =
+      All-map (RawPatternFits song.channels) raw_pattern_of song.patterns
+      (λ k d lt. pattern_fits song.channels _ v.some_channels v.few_channels (v.patterns k d lt));
   instruments_count = length-map song.instruments raw_instrument_of;
-  instruments = All-map RawInstrumentFits raw_instrument_of song.instruments (λ k d lt. instrument_fits _ (v.instruments k d lt));
+  instruments =
+      All-map RawInstrumentFits raw_instrument_of song.instruments (λ k d lt. instrument_fits _ (v.instruments k d lt));
 }
 
 -- ---- what it means
@@ -80,8 +88,11 @@ make name tracker restart channels linear tempo bpm orders patterns instruments 
   instruments = instruments;
 }
 
-same_song : (song : Module) (restart : ℕ) (linear : Bool) (tempo bpm : ℕ) (orders : List ℕ) (patterns : List Pattern) (instruments : List Instrument)
-    → restart ≡ song.restart → linear ≡ song.linear → tempo ≡ song.tempo → bpm ≡ song.bpm → orders ≡ song.orders → patterns ≡ song.patterns → instruments ≡ song.instruments
+same_song :
+    (song : Module) (restart : ℕ) (linear : Bool) (tempo bpm : ℕ) (orders : List ℕ) (patterns : List Pattern)
+        (instruments : List Instrument)
+    → restart ≡ song.restart → linear ≡ song.linear → tempo ≡ song.tempo → bpm ≡ song.bpm → orders ≡ song.orders
+        → patterns ≡ song.patterns → instruments ≡ song.instruments
     → make song.name song.tracker restart song.channels linear tempo bpm orders patterns instruments ≡ song
 same_song song restart linear tempo bpm orders patterns instruments a b c d e f g = rw (a, b, c, d, e, f, g) refl
 
@@ -110,11 +121,15 @@ unfolding module_of song_from
 song_means song v =
     let n = max 1 (length song.orders) in
     let channels = song.channels in
-    same_song song (cond (nat_lt song.restart n) song.restart 0) ((settings_of song).flags % 2 == 1) (brought 1 31 song.tempo) (brought 32 255 song.bpm) (orders_of n (order_table song.orders))
-    (map (pattern_of channels) (map raw_pattern_of song.patterns)) (map instrument_of (map raw_instrument_of song.instruments))
-    (kept_restart song.restart n (omega (arith, v.restart))) (linear_again song.linear) (in_range 1 31 song.tempo v.some_tempo v.low_tempo) (in_range 32 255 song.bpm v.some_bpm v.low_bpm)
+    same_song song (cond (nat_lt song.restart n) song.restart 0) ((settings_of song).flags % 2 == 1)
+        (brought 1 31 song.tempo) (brought 32 255 song.bpm) (orders_of n (order_table song.orders))
+    (map (pattern_of channels) (map raw_pattern_of song.patterns))
+        (map instrument_of (map raw_instrument_of song.instruments))
+    (kept_restart song.restart n (omega (arith, v.restart))) (linear_again song.linear)
+        (in_range 1 31 song.tempo v.some_tempo v.low_tempo) (in_range 32 255 song.bpm v.some_bpm v.low_bpm)
     (orders_again song.orders v.some_orders)
-    (map_back (pattern_of channels) raw_pattern_of song.patterns (λ k d lt. pattern_means channels _ v.some_channels (v.patterns k d lt)))
+    (map_back (pattern_of channels) raw_pattern_of song.patterns
+        (λ k d lt. pattern_means channels _ v.some_channels (v.patterns k d lt)))
     (map_back instrument_of raw_instrument_of song.instruments (λ k d lt. instrument_means _ (v.instruments k d lt)))
 
 text_again : (song : Module) → canon song ≡ song_text (raw_song_of song) ++ []
@@ -122,4 +137,11 @@ unfolding canon
 text_again song = sym (append-nil (song_text (raw_song_of song)))
 
 pub canonical_spelled : CanonicalIsSpelled
-canonical_spelled song v = record { raw = raw_song_of song; surplus = []; fits = song_fits song v; text = text_again song; means = song_means song v }
+canonical_spelled song v =
+    record {
+      raw = raw_song_of song;
+      surplus = [];
+      fits = song_fits song v;
+      text = text_again song;
+      means = song_means song v;
+    }

@@ -45,14 +45,22 @@ cell_valid raw fits = record {
 }
 
 empty_valid : IsValidCell EMPTY_CELL
-empty_valid = record { note = omega arith; instrument = omega arith; volume = omega arith; effect = omega arith; parameter = omega arith }
+empty_valid =
+    record {
+      note = omega arith;
+      instrument = omega arith;
+      volume = omega arith;
+      effect = omega arith;
+      parameter = omega arith;
+    }
 
 -- what the cells of a pattern are
 record Cells (count : ℕ) (cells : List Cell) : Type 0 where
   whole : length cells ≡ count
   each : All IsValidCell cells
 
-data_valid : (none : Bool) (count packed : ℕ) (x : List RawCell × List ℕ) → DataFits none count packed x → Cells count (cond none (replicate count EMPTY_CELL) (map cell_of x.0))
+data_valid : (none : Bool) (count packed : ℕ) (x : List RawCell × List ℕ) → DataFits none count packed x
+    → Cells count (cond none (replicate count EMPTY_CELL) (map cell_of x.0))
 data_valid true count packed x fits = record {
   whole = length-replicate {A = Cell} count EMPTY_CELL;
   each = All-replicate IsValidCell count EMPTY_CELL empty_valid;
@@ -68,10 +76,13 @@ some_rows n = grind (arith, nat_tests)
 few_rows : (n : ℕ) → n ≤ 256 → cond (n == 0) 64 n ≤ 256
 few_rows n le = grind (arith, nat_tests)
 
-pattern_valid : (channels : ℕ) (raw : RawPattern) → RawPatternFits channels raw → IsValidPattern channels (pattern_of channels raw)
+pattern_valid : (channels : ℕ) (raw : RawPattern) → RawPatternFits channels raw
+    → IsValidPattern channels (pattern_of channels raw)
 unfolding pattern_of
 pattern_valid channels raw fits =
-    let d = data_valid (raw.head.packed == 0) (rows_of raw.head * channels) raw.head.packed (raw.cells, raw.surplus) fits.cells in
+    let d =
+        data_valid (raw.head.packed == 0) (rows_of raw.head * channels) raw.head.packed (raw.cells, raw.surplus)
+        fits.cells in
     record {
       some_rows = some_rows raw.head.rows;
       few_rows = few_rows raw.head.rows fits.head.rows;
@@ -99,7 +110,8 @@ not_zero_kind kind len e z = grind (arith, nat_tests)
 not_zero_len : (kind len : ℕ) → ((kind == 0) || (len == 0)) ≡ false → 1 ≤ len
 not_zero_len kind len e = grind (arith, nat_tests)
 
-loop_valid : (none : Bool) (frames kind start len : ℕ) → ((kind == 0) || (len == 0)) ≡ none → kind ≤ 2 → start ≤ frames → len ≤ frames - start → Loop frames (kept none kind) (kept none start) (kept none len)
+loop_valid : (none : Bool) (frames kind start len : ℕ) → ((kind == 0) || (len == 0)) ≡ none → kind ≤ 2 → start ≤ frames
+    → len ≤ frames - start → Loop frames (kept none kind) (kept none start) (kept none len)
 loop_valid true frames kind start len e low in_start in_len = record {
   low = omega arith;
   none_start = λ _. refl;
@@ -120,7 +132,8 @@ record Frames (wide : Bool) (count : ℕ) (frames : List ℤ) : Type 0 where
   len : length frames ≡ count
   each : All (FitsSigned (width_of wide)) frames
 
-frames_valid : (wide : Bool) (steps : List ℕ) → Frames wide (cond wide (length steps / 2) (length steps)) (cond wide (wide_frames steps) (narrow_frames steps))
+frames_valid : (wide : Bool) (steps : List ℕ)
+    → Frames wide (cond wide (length steps / 2) (length steps)) (cond wide (wide_frames steps) (narrow_frames steps))
 frames_valid true steps = record { len = wide_length steps; each = wide_fit steps }
 frames_valid false steps = record { len = narrow_length steps; each = narrow_fit steps }
 
@@ -132,15 +145,24 @@ unfolding sample_from
 sample_valid raw fits =
     let h = raw.header in
     let f = frames_valid (is_wide h) raw.steps in
-    let count : cond (is_wide h) (length raw.steps / 2) (length raw.steps) ≡ frame_count h = ap (λ (n : ℕ). cond (is_wide h) (n / 2) n) fits.steps.0 in
-    let l = loop_valid (is_unlooped h) (frame_count h) (loop_kind_of h) (loop_start_of h) (loop_len_of h) refl (min_low 2 (h.kind % 4)) (min_low (frame_count h) _) (min_low (frame_count h - loop_start_of h) _) in
+    let count : cond (is_wide h) (length raw.steps / 2) (length raw.steps) ≡ frame_count h =
+        ap (λ (n : ℕ). cond (is_wide h) (n / 2) n) fits.steps.0 in
+    let l =
+        loop_valid (is_unlooped h) (frame_count h) (loop_kind_of h) (loop_start_of h) (loop_len_of h) refl
+        (min_low 2 (h.kind % 4)) (min_low (frame_count h) _) (min_low (frame_count h - loop_start_of h) _) in
     record {
       name = are_bytes 22 h.name fits.header.name;
       volume = min_low 64 h.volume;
       finetune = narrow_signed h.finetune (omega (arith, fits.header.finetune));
       relative = narrow_signed h.relative (omega (arith, fits.header.relative));
       panning = omega (arith, fits.header.panning);
-      looping = record { kind = l.low; none_start = l.none_start; none_len = l.none_len; some_len = l.some_len; within = λ some. omega (arith, l.within some, f.len, count) };
+      looping = record {
+        kind = l.low;
+        none_start = l.none_start;
+        none_len = l.none_len;
+        some_len = l.some_len;
+        within = λ some. omega (arith, l.within some, f.len, count);
+      };
       few_frames = subst (λ (n : ℕ). n ≤ 3932160) (sym (f.len ∙ count)) fits.header.few_frames;
       frames = f.each;
     }
@@ -170,11 +192,20 @@ low_kind n = grind (arith, nat_tests)
 
 vibrato_valid : (v : Vibrato) → VibratoFits v → IsValidVibrato (vibrato_of v)
 unfolding vibrato_of
-vibrato_valid v fits = record { kind = low_kind v.kind; sweep = omega (arith, fits.sweep); depth = min_low 15 v.depth; rate = min_low 63 v.rate }
+vibrato_valid v fits =
+    record {
+      kind = low_kind v.kind;
+      sweep = omega (arith, fits.sweep);
+      depth = min_low 15 v.depth;
+      rate = min_low 63 v.rate;
+    }
 
 zero_fits : ExtraFits NO_EXTRA
 zero_fits =
-    let points : AllFit 12 PointFits NO_ENVELOPE.points = record { count = refl; each = All-replicate PointFits 12 (record { x = 0; y = 0 }) (record { x = omega arith; y = omega arith }) } in
+    let points : AllFit 12 PointFits NO_ENVELOPE.points =
+        record
+        { count = refl; each = All-replicate PointFits 12 (record { x = 0; y = 0 }) (record { x = omega arith; y = omega arith }) }
+        in
     record {
       header_size = omega arith;
       map = (refl, bytes_of (replicate 96 0) (All-replicate (λ byte. byte < 256) 96 0 (omega arith)));
@@ -214,8 +245,10 @@ zero_zero head =
       fadeout = refl;
     }
 
-with_valid : (head : InstrumentHead) (extra : Extra) (samples : List Sample) → IsField 22 head.name → ExtraFits extra → length samples ≤ 16 → All IsValidSample samples
-    → (length samples ≡ 0 → IsZeroInstrument (instrument_with head extra samples)) → IsValidInstrument (instrument_with head extra samples)
+with_valid : (head : InstrumentHead) (extra : Extra) (samples : List Sample) → IsField 22 head.name → ExtraFits extra
+    → length samples ≤ 16 → All IsValidSample samples
+    → (length samples ≡ 0 → IsZeroInstrument (instrument_with head extra samples))
+        → IsValidInstrument (instrument_with head extra samples)
 unfolding instrument_with
 with_valid head extra samples name fits few all without = record {
   name = are_bytes 22 head.name name;
@@ -236,13 +269,17 @@ sample_in raw = sample_from raw.header raw.steps
 not_empty : (n : ℕ) → (n == 0) ≡ false → n ≡ 0 → ⊥
 not_empty n e z = grind (arith, nat_tests)
 
-rest_valid : (none : Bool) (head : InstrumentHead) (rest : RawRest) → (head.samples == 0) ≡ none → HeadFits head → RestFits none head rest
+rest_valid : (none : Bool) (head : InstrumentHead) (rest : RawRest) → (head.samples == 0) ≡ none → HeadFits head
+    → RestFits none head rest
     → IsValidInstrument (instrument_with head rest.extra (map sample_in rest.samples))
 rest_valid true head rest e h fits =
-    let zero : instrument_with head NO_EXTRA [] ≡ instrument_with head rest.extra (map sample_in rest.samples) = rw (fits.extra, fits.samples) refl in
-    subst IsValidInstrument zero (with_valid head NO_EXTRA [] h.name zero_fits (omega arith) (All-nil IsValidSample) (λ _. zero_zero head))
+    let zero : instrument_with head NO_EXTRA [] ≡ instrument_with head rest.extra (map sample_in rest.samples) =
+        rw (fits.extra, fits.samples) refl in
+    subst IsValidInstrument zero
+        (with_valid head NO_EXTRA [] h.name zero_fits (omega arith) (All-nil IsValidSample) (λ _. zero_zero head))
 rest_valid false head rest e h fits =
-    let count : length (map sample_in rest.samples) ≡ head.samples = length-map rest.samples sample_in ∙ fits.samples.count in
+    let count : length (map sample_in rest.samples) ≡ head.samples =
+        length-map rest.samples sample_in ∙ fits.samples.count in
     with_valid head rest.extra (map sample_in rest.samples) h.name fits.extra.fits (omega (arith, count, h.samples))
     (All-map IsValidSample sample_in rest.samples (λ k d lt. sample_valid _ (fits.samples.each k d lt)))
     (λ z. absurd (not_empty head.samples e (sym count ∙ z)))
@@ -256,13 +293,20 @@ restart_low : (restart n : ℕ) → 1 ≤ n → cond (nat_lt restart n) restart 
 restart_low restart n some = grind (arith, nat_tests)
 
 order_count : (n : ℕ) (table : List ℕ) → n ≤ 256 → length (orders_of n table) ≡ n
-order_count n table few = omega (arith, few, length-take n (table ++ replicate 256 0), length-append table (replicate 256 0), length-replicate {A = ℕ} 256 0)
+order_count n table few =
+    omega
+    (arith, few, length-take n (table ++ replicate 256 0), length-append table (replicate 256 0), length-replicate
+        {A = ℕ} 256 0)
 
 order_bytes : (n : ℕ) (table : List ℕ) → All (λ byte. byte < 256) table → All (λ byte. byte < 256) (orders_of n table)
-order_bytes n table all = All-take (λ byte. byte < 256) n (table ++ replicate 256 0) (All-append (λ byte. byte < 256) table (replicate 256 0) all (All-replicate (λ byte. byte < 256) 256 0 (omega arith)))
+order_bytes n table all =
+    All-take (λ byte. byte < 256) n (table ++ replicate 256 0)
+    (All-append (λ byte. byte < 256) table (replicate 256 0) all
+        (All-replicate (λ byte. byte < 256) 256 0 (omega arith)))
 
 header_valid : (raw : RawHeader) (patterns : List Pattern) (instruments : List Instrument) → HeaderFits raw
-    → length patterns ≡ raw.settings.patterns → All (IsValidPattern raw.sizes.channels) patterns → length instruments ≡ raw.settings.instruments → All IsValidInstrument instruments
+    → length patterns ≡ raw.settings.patterns → All (IsValidPattern raw.sizes.channels) patterns
+        → length instruments ≡ raw.settings.instruments → All IsValidInstrument instruments
     → IsValid (song_from raw patterns instruments)
 unfolding song_from
 header_valid raw patterns instruments fits many ps all is =
@@ -294,7 +338,8 @@ module_valid raw fits =
     let channels = raw.header.sizes.channels in
     header_valid raw.header (map (pattern_of channels) raw.patterns) (map instrument_of raw.instruments) fits.header
     (length-map raw.patterns (pattern_of channels) ∙ fits.patterns_count)
-    (All-map (IsValidPattern channels) (pattern_of channels) raw.patterns (λ k d lt. pattern_valid channels _ (fits.patterns k d lt)))
+    (All-map (IsValidPattern channels) (pattern_of channels) raw.patterns
+        (λ k d lt. pattern_valid channels _ (fits.patterns k d lt)))
     (length-map raw.instruments instrument_of ∙ fits.instruments_count)
     (All-map IsValidInstrument instrument_of raw.instruments (λ k d lt. instrument_valid _ (fits.instruments k d lt)))
 

@@ -31,7 +31,8 @@ pub record AllFit {A : Type 0} (n : ℕ) (F : A → Type 0) (xs : List A) : Type
   pub each : All F xs
 
 -- a value and a surplus, which have n bytes together
-pub record FitsWithin {A : Type 0} (n : ℕ) (text : A → List ℕ) (F : A → Type 0) (x : A × List ℕ) : Type 0 where
+pub record FitsWithin {A : Type 0} (n : ℕ) (text : A → List ℕ) (F : A → Type 0) (x : A × List ℕ) :
+    Type 0 where
   pub fits : F x.0
   pub whole : length (text x.0 ++ x.1) ≡ n
   pub bytes : AreBytes x.1

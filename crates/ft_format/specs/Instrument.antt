@@ -114,8 +114,8 @@ pub record ExtraFits (extra : Extra) : Type 0 where
 
 -- ---- the whole
 
--- what stands behind the first bytes of a head: for an instrument with samples the extra fields; skipped
--- bytes; all sample headers, and then the data of each sample
+-- what stands behind the first bytes of a head: for an instrument with samples the extra fields;
+-- skipped bytes; all sample headers, and then the data of each sample
 pub record RawRest : Type 0 where
   pub extra : Extra
   pub skipped : List ℕ

@@ -59,7 +59,8 @@ abbrev pub loop_start_of : SampleHeader → ℕ
 loop_start_of header = min (frame_count header) (in_frames header header.loop_start)
 
 abbrev pub loop_len_of : SampleHeader → ℕ
-loop_len_of header = min (frame_count header - loop_start_of header) (in_frames header header.loop_len)
+loop_len_of header =
+    min (frame_count header - loop_start_of header) (in_frames header header.loop_len)
 
 -- no loop by its kind, or none that has a frame
 abbrev pub is_unlooped : SampleHeader → Bool

@@ -1,6 +1,6 @@
--- Which bytes spell a module: a header, the patterns, the instruments, and any bytes behind them. Each
--- part says values in fields of given sizes, and these, brought into the ranges of a valid module, are
--- the module's.
+-- Which bytes spell a module: a header, the patterns, the instruments, and any bytes behind them.
+-- Each part says values in fields of given sizes, and these, brought into the ranges of a valid
+-- module, are the module's.
 use Rattle.std.specs.Prelude.{◌≡◌, ◌⊎◌, ℕ, ◌+◌, List, ◌∷◌, ◌++◌, take, drop, length, All, map, flat_map}
 use Rattle.ft_types.specs.declared.module.Module.{Module}
 use Rattle.ft_format.specs.declared.layout.TheConstants.{IDENTIFICATION, LETTER, CAPITAL, SMALL}

@@ -20,7 +20,8 @@ pub record Goes (step r : ℤ) : Type 0 where
   pub up : pos 0 ≤ℤ step → (pos 0 ≤ℤ r) × (r ≤ℤ step)
   pub down : step ≤ℤ pos 0 → (step ≤ℤ r) × (r ≤ℤ pos 0)
 
-goes : (step r : ℤ) (q : ℕ) → q < 2 ^ 32 → (r *ℤ pos (2 ^ 32)) ≤ℤ (step *ℤ pos q) → (step *ℤ pos q) <ℤ ((r *ℤ pos (2 ^ 32)) +ℤ pos (2 ^ 32)) → Goes step r
+goes : (step r : ℤ) (q : ℕ) → q < 2 ^ 32 → (r *ℤ pos (2 ^ 32)) ≤ℤ (step *ℤ pos q)
+    → (step *ℤ pos q) <ℤ ((r *ℤ pos (2 ^ 32)) +ℤ pos (2 ^ 32)) → Goes step r
 goes (pos a) r q lt low high = record {
   up = λ h. (omega (arith, ints, times a q lt), omega (arith, ints, times a q lt));
   down = λ h. (omega (arith, ints, times a q lt), omega (arith, ints, times a q lt));
@@ -32,17 +33,21 @@ goes (negsuc a) r q lt low high = record {
 
 pub part_goes : (step : ℤ) (q : ℕ) → q < 2 ^ 32 → Goes step (part step q)
 unfolding part
-part_goes step q lt = let z = step *ℤ pos q in goes step (floor_div z (2 ^ 32)) q lt (floor_low z (2 ^ 32) (omega arith)) (floor_high z (2 ^ 32) (omega arith))
+part_goes step q lt =
+    let z = step *ℤ pos q in
+    goes step (floor_div z (2 ^ 32)) q lt (floor_low z (2 ^ 32) (omega arith)) (floor_high z (2 ^ 32) (omega arith))
 
 -- the line from one value of 16 bits to another has values of 16 bits
-pub rise_fits : (first rise r : ℤ) → FitsSigned w16 first → FitsSigned w16 (first +ℤ rise) → Goes rise r → FitsSigned w16 (first +ℤ r)
+pub rise_fits : (first rise r : ℤ) → FitsSigned w16 first → FitsSigned w16 (first +ℤ rise) → Goes rise r
+    → FitsSigned w16 (first +ℤ r)
 rise_fits first rise r f s goes =
     by_lt_z rise (pos 0)
     (λ lt. let less : rise ≤ℤ pos 0 = omega (arith, ints) in let g = goes.down less in omega (arith, ints))
     (λ le. let more : pos 0 ≤ℤ rise = omega (arith, ints) in let g = goes.up more in omega (arith, ints))
 
 -- and is the line of the definition
-pub line_value : (head : SampleHead) (owned : Option Owned) (position fraction : ℕ) (line : Line) (r : ℤ) → IsLine head owned (position / 2 ^ 32) line
+pub line_value : (head : SampleHead) (owned : Option Owned) (position fraction : ℕ) (line : Line) (r : ℤ)
+    → IsLine head owned (position / 2 ^ 32) line
     → fraction ≡ position % 2 ^ 32 → r ≡ part line.rise fraction → (line.first +ℤ r) ≡ value_at head owned position
 unfolding value_at between
 line_value head owned position fraction line r is e f =

@@ -18,16 +18,20 @@ pub record IsMixed (keeps : ℕ → SampleHead → Type 0) (channels : ℕ) (voi
   pub range : IsVoiceInRange voice
 
 -- a call that only asks: what is shown stays, and this is true of it
-abbrev pub Tells : {V W : Type 0} → (V → W → Type 0) → (V → W → Shown) → V → V → (Shown → Type 0) → Type 0
+abbrev pub Tells : {V W : Type 0} → (V → W → Type 0) → (V → W → Shown) → V → V → (Shown → Type 0)
+    → Type 0
 Tells {W = W} shows shown view view_after answer =
-    (w : W) → shows view_after w → shows view w × (shown view_after w ≡ shown view w) × answer (shown view w)
+    (w : W) → shows view_after w
+        → shows view w × (shown view_after w ≡ shown view w) × answer (shown view w)
 
 -- ---- lines between two values
 
 -- the line from the frame that is reached at a place to the next
 pub record IsLine (head : SampleHead) (owned : Option Owned) (at : ℕ) (line : Line) : Type 0 where
   pub first : line.first ≡ value_in head owned (place_of head at)
-  pub rise : line.rise ≡ (value_in head owned (place_of head (at + 1)) -ℤ value_in head owned (place_of head at))
+  pub rise :
+      line.rise
+          ≡ (value_in head owned (place_of head (at + 1)) -ℤ value_in head owned (place_of head at))
 
 -- both its ends have 16 bits
 pub record IsLineInRange (line : Line) : Type 0 where
@@ -40,7 +44,8 @@ flat = record { first = pos 0; rise = pos 0 }
 
 -- so many lines, one after the other
 abbrev pub AreLines : SampleHead → Option Owned → ℕ → ℕ → List Line → Type 0
-AreLines head owned at many lines = (j : ℕ) → j < many → IsLine head owned (at + j) (get_or lines j flat)
+AreLines head owned at many lines =
+    (j : ℕ) → j < many → IsLine head owned (at + j) (get_or lines j flat)
 
 abbrev pub AreLinesInRange : ℕ → List Line → Type 0
 AreLinesInRange many lines = (j : ℕ) → j < many → IsLineInRange (get_or lines j flat)
@@ -49,7 +54,8 @@ AreLinesInRange many lines = (j : ℕ) → j < many → IsLineInRange (get_or li
 
 -- so many values, from a position on, each a step on
 abbrev pub AreValues : SampleHead → Option Owned → ℕ → ℕ → ℕ → List ℤ → Type 0
-AreValues head owned position step many values = (k : ℕ) → k < many → get_or values k (pos 0) ≡ value_at head owned (position + k * step)
+AreValues head owned position step many values =
+    (k : ℕ) → k < many → get_or values k (pos 0) ≡ value_at head owned (position + k * step)
 
 abbrev pub Fit16 : ℕ → List ℤ → Type 0
 Fit16 many values = (k : ℕ) → k < many → FitsSigned w16 (get_or values k (pos 0))
@@ -65,9 +71,12 @@ abbrev pub AreLoud : ℕ → ℕ → List ℤ → Type 0
 AreLoud voices many sums = (k : ℕ) → k < many → IsLoud voices (get_or sums k (pos 0))
 
 -- so many sums of both sides, from a frame of a tick on
-pub record AreSums (first : ℕ) (kept : List (Option Owned)) (voices : List Voice) (many : ℕ) (lefts rights : List ℤ) : Type 0 where
-  pub left : (k : ℕ) → k < many → get_or lefts k (pos 0) ≡ voices_sum (left_of (first + k)) kept voices
-  pub right : (k : ℕ) → k < many → get_or rights k (pos 0) ≡ voices_sum (right_of (first + k)) kept voices
+pub record AreSums (first : ℕ) (kept : List (Option Owned)) (voices : List Voice) (many : ℕ)
+    (lefts rights : List ℤ) : Type 0 where
+  pub left : (k : ℕ) → k < many
+      → get_or lefts k (pos 0) ≡ voices_sum (left_of (first + k)) kept voices
+  pub right : (k : ℕ) → k < many
+      → get_or rights k (pos 0) ≡ voices_sum (right_of (first + k)) kept voices
 
 -- a frame is written: left, then right, each clipped once
 pub record IsFrame (left_sum right_sum : ℤ) (frame : ℕ) (out : List ℤ) : Type 0 where
@@ -77,7 +86,8 @@ pub record IsFrame (left_sum right_sum : ℤ) (frame : ℕ) (out : List ℤ) : T
 -- at so many of the first frames of a tick stands the sound of its voices
 abbrev pub AreFrames : List (Option Owned) → List Voice → ℕ → List ℤ → Type 0
 AreFrames kept voices frames out =
-    (k : ℕ) → k < frames → IsFrame (voices_sum (left_of k) kept voices) (voices_sum (right_of k) kept voices) k out
+    (k : ℕ) → k < frames
+        → IsFrame (voices_sum (left_of k) kept voices) (voices_sum (right_of k) kept voices) k out
 
 -- ---- what the calls of a view cost
 
@@ -108,11 +118,13 @@ block_cost frames voice = cost_by (5 + (frames + 3) / 4) (2 * frame_bound * fram
 
 -- going on from a frame to another one, where 256 words stand in a body
 abbrev pub way_cost : ℕ → ℕ → ℕ
-way_cost from to = 3 + (word_of to - word_of from) + 2 * (body_of (word_of to) - body_of (word_of from))
+way_cost from to =
+    3 + (word_of to - word_of from) + 2 * (body_of (word_of to) - body_of (word_of from))
 
 -- ---- what mixing leaves
 
 -- no voice on a channel ends
 abbrev pub SoundsOn : ℕ → List Voice → ℕ → Type 0
 SoundsOn frames [] c = Unit {0}
-SoundsOn frames (voice ∷ voices) c = (is_ended frames voice ≡ true → c ≢ voice.channel) × SoundsOn frames voices c
+SoundsOn frames (voice ∷ voices) c =
+    (is_ended frames voice ≡ true → c ≢ voice.channel) × SoundsOn frames voices c

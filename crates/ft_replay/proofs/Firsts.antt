@@ -8,7 +8,8 @@ use Rattle.ft_replay.specs.Range.{IsBetweenTicks, IsMemoryInRange}
 use Rattle.ft_replay.specs.Standing.{IsAscending, lanes_of, state_of, seated}
 
 -- as many channels, for which nothing is kept
-unkept : (channel : Channel) (n : ℕ) → lanes_of (replicate n channel) (replicate n None) ≡ replicate n (record { channel = channel; owned = None })
+unkept : (channel : Channel) (n : ℕ)
+    → lanes_of (replicate n channel) (replicate n None) ≡ replicate n (record { channel = channel; owned = None })
 unkept channel zero = refl
 unkept channel (suc n) = ap (λ (l : List Lane). record { channel = channel; owned = None } ∷ l) (unkept channel n)
 
@@ -25,13 +26,15 @@ same_of_all channel d zero c lt = absurd (omega (arith, lt))
 same_of_all channel d (suc n) zero lt = refl
 same_of_all channel d (suc n) (suc c) lt = same_of_all channel d n c (omega (arith, lt))
 
-pub first_in_range : (channels : ℕ) → channels ≤ 32 → IsBetweenTicks channels first_control (replicate 32 first_channel) []
+pub first_in_range : (channels : ℕ) → channels ≤ 32
+    → IsBetweenTicks channels first_control (replicate 32 first_channel) []
 unfolding IsAscending
 first_in_range channels few = record {
   few = few;
   room = omega (arith, length-replicate 32 first_channel);
   control = search rules;
-  channels = λ c lt. subst IsMemoryInRange (sym (same_of_all first_channel blank_channel 32 c (omega arith))) (search rules);
+  channels =
+      λ c lt. subst IsMemoryInRange (sym (same_of_all first_channel blank_channel 32 c (omega arith))) (search rules);
   seats = λ c lt. ap (λ (x : Channel). x.voice) (same_of_all first_channel blank_channel 32 c (omega arith));
   ascend = tt;
   voices = λ i d lt. absurd (omega arith);

@@ -37,18 +37,22 @@ four_frames = record {
 sounding : ℕ → Lane
 unfolding four_frames
 sounding step = record {
-  channel = record first_channel { voice = Some (record (new_voice 0 0 (head_of four_frames)) { step = step; left = 32768; right = 32768 }) };
+  channel = record first_channel {
+    voice = Some (record (new_voice 0 0 (head_of four_frames)) { step = step; left = 32768; right = 32768 });
+  };
   owned = Some (record { origin = record { version = 0; instrument = 1; sample = 0 }; sample = four_frames });
 }
 
 -- four frames of 2048 on both sides, and then silence
 four_and_silence : sound_of (sounding (2 ^ 32) ∷ []) 6
-    ≡ pos 2048 ∷ pos 2048 ∷ pos 2048 ∷ pos 2048 ∷ pos 2048 ∷ pos 2048 ∷ pos 2048 ∷ pos 2048 ∷ pos 0 ∷ pos 0 ∷ pos 0 ∷ pos 0 ∷ []
+    ≡ pos 2048 ∷ pos 2048 ∷ pos 2048 ∷ pos 2048 ∷ pos 2048 ∷ pos 2048 ∷ pos 2048 ∷ pos 2048 ∷ pos 0 ∷ pos 0 ∷ pos 0
+        ∷ pos 0 ∷ []
 unfolding sounding four_frames sound_of frame_at value_at place_of between part gained
 four_and_silence = refl
 
 -- an octave higher two frames
-two_and_silence : sound_of (sounding (2 * 2 ^ 32) ∷ []) 3 ≡ pos 2048 ∷ pos 2048 ∷ pos 2048 ∷ pos 2048 ∷ pos 0 ∷ pos 0 ∷ []
+two_and_silence :
+    sound_of (sounding (2 * 2 ^ 32) ∷ []) 3 ≡ pos 2048 ∷ pos 2048 ∷ pos 2048 ∷ pos 2048 ∷ pos 0 ∷ pos 0 ∷ []
 unfolding sounding four_frames sound_of frame_at value_at place_of between part gained
 two_and_silence = refl
 
@@ -147,7 +151,8 @@ tick_at : ℕ → ℕ → Place
 tick_at tick frames = record { order = 0; row = 0; tick = tick; frames = frames }
 
 -- of 200 frames the first two ticks of 160 are whole, and leave the last none
-only_the_last_is_cut : cut_last 200 (tick_at 0 160 ∷ tick_at 1 160 ∷ tick_at 2 160 ∷ []) ≡ tick_at 0 160 ∷ tick_at 1 160 ∷ tick_at 2 0 ∷ []
+only_the_last_is_cut :
+    cut_last 200 (tick_at 0 160 ∷ tick_at 1 160 ∷ tick_at 2 160 ∷ []) ≡ tick_at 0 160 ∷ tick_at 1 160 ∷ tick_at 2 0 ∷ []
 unfolding tick_at
 only_the_last_is_cut = refl
 

@@ -12,40 +12,57 @@ use Rattle.ft_replay.specs.Standing.{lane_of, turn_of, Became, Turned, Made}
 -- ---- by what stands behind the view
 
 -- one channel's lane becomes what a rule makes of it
-abbrev pub Changes : {V W : Type 0} → (V → W → Type 0) → (V → W → Shown) → (ℕ → Module → Lane → Lane) → ℕ → V → V → Channel → Channel → Type 0
+abbrev pub Changes : {V W : Type 0} → (V → W → Type 0) → (V → W → Shown)
+    → (ℕ → Module → Lane → Lane) → ℕ → V → V → Channel → Channel → Type 0
 Changes {W = W} shows shown rule c view view_after channel channel_after =
     (w : W) → shows view_after w → shows view w
-    × Became c (rule (shown view w).version (shown view w).song (lane_of c (shown view w) channel)) (shown view w) (shown view_after w) channel_after
+    × Became c (rule (shown view w).version (shown view w).song (lane_of c (shown view w) channel))
+        (shown view w) (shown view_after w) channel_after
 
 -- one channel's turn becomes what a rule makes of it
-abbrev pub Turns : {V W : Type 0} → (V → W → Type 0) → (V → W → Shown) → (ℕ → Module → ℕ → Turn → Turn) → ℕ → V → V → Channel → Channel → Control → Control → Type 0
+abbrev pub Turns : {V W : Type 0} → (V → W → Type 0) → (V → W → Shown)
+    → (ℕ → Module → ℕ → Turn → Turn) → ℕ → V → V → Channel → Channel → Control → Control → Type 0
 Turns {W = W} shows shown rule c view view_after channel channel_after control control_after =
     (w : W) → shows view_after w → shows view w
-    × Turned c (rule (shown view w).version (shown view w).song c (turn_of c (shown view w) channel control)) (shown view w) (shown view_after w) channel_after control_after
+    × Turned c
+        (rule (shown view w).version (shown view w).song c
+            (turn_of c (shown view w) channel control)) (shown view w) (shown view_after w)
+        channel_after control_after
 
 -- the whole state becomes what a rule makes of it
-abbrev pub Makes : {V W : Type 0} → (V → W → Type 0) → (V → W → Shown) → (ℕ → Module → SequentialState → SequentialState) → V → V → (Shown → SequentialState) → (Shown → SequentialState) → Type 0
+abbrev pub Makes : {V W : Type 0} → (V → W → Type 0) → (V → W → Shown)
+    → (ℕ → Module → SequentialState → SequentialState) → V → V → (Shown → SequentialState)
+    → (Shown → SequentialState) → Type 0
 Makes {W = W} shows shown rule view view_after state state_after =
     (w : W) → shows view_after w → shows view w
-    × Made rule (shown view w) (shown view_after w) (state (shown view w)) (state_after (shown view_after w))
+    × Made rule (shown view w) (shown view_after w) (state (shown view w))
+        (state_after (shown view_after w))
 
 -- nothing that is shown changes
 abbrev pub ShowsOn : {V W : Type 0} → (V → W → Type 0) → (V → W → Shown) → V → V → Type 0
-ShowsOn {W = W} shows shown view view_after = (w : W) → shows view_after w → shows view w × (shown view_after w ≡ shown view w)
+ShowsOn {W = W} shows shown view view_after =
+    (w : W) → shows view_after w → shows view w × (shown view_after w ≡ shown view w)
 
--- ---- the same by what the view may show: for whatever it may show after a call there is something that
+-- ---- the same by what the view may show: for whatever it may show after a call there is something
+-- ---- that
 -- ---- it might show before
 
 -- of which one channel's turn is made
-abbrev pub TurnsShown : {V W : Type 0} → (V → W → Type 0) → (V → W → Shown) → (ℕ → Module → ℕ → Turn → Turn) → ℕ → V → V → Channel → Channel → Control → Control → Type 0
+abbrev pub TurnsShown : {V W : Type 0} → (V → W → Type 0) → (V → W → Shown)
+    → (ℕ → Module → ℕ → Turn → Turn) → ℕ → V → V → Channel → Channel → Control → Control → Type 0
 TurnsShown shows shown rule c view view_after channel channel_after control control_after =
-    (after : Shown) → MayShow shows shown view_after after → (before : Shown) × MayShow shows shown view before
-    × Turned c (rule before.version before.song c (turn_of c before channel control)) before after channel_after control_after
+    (after : Shown) → MayShow shows shown view_after after
+        → (before : Shown) × MayShow shows shown view before
+    × Turned c (rule before.version before.song c (turn_of c before channel control)) before after
+        channel_after control_after
 
 -- of which the whole state is made
-abbrev pub MakesShown : {V W : Type 0} → (V → W → Type 0) → (V → W → Shown) → (ℕ → Module → SequentialState → SequentialState) → V → V → (Shown → SequentialState) → (Shown → SequentialState) → Type 0
+abbrev pub MakesShown : {V W : Type 0} → (V → W → Type 0) → (V → W → Shown)
+    → (ℕ → Module → SequentialState → SequentialState) → V → V → (Shown → SequentialState)
+    → (Shown → SequentialState) → Type 0
 MakesShown shows shown rule view view_after state state_after =
-    (after : Shown) → MayShow shows shown view_after after → (before : Shown) × MayShow shows shown view before
+    (after : Shown) → MayShow shows shown view_after after
+        → (before : Shown) × MayShow shows shown view before
     × Made rule before after (state before) (state_after after)
 
 -- ---- what is kept, whatever stands behind the view
@@ -55,23 +72,28 @@ abbrev pub IsKept : (ℕ → SampleHead → Type 0) → ℕ → Option Voice →
 IsKept keeps c None = Unit {0}
 IsKept keeps c (Some voice) = keeps c voice.head
 
--- before and after a call for one channel: its voice's sample stays kept, it keeps one exactly where it
--- has a voice if it did so before, and the other channels keep what they kept
-pub record KeepsFor (c : ℕ) (before after : ℕ → SampleHead → Type 0) (held held_after : List Bool) (voice voice_after : Option Voice) : Type 0 where
+-- before and after a call for one channel: its voice's sample stays kept, it keeps one exactly
+-- where it has a voice if it did so before, and the other channels keep what they kept
+pub record KeepsFor (c : ℕ) (before after : ℕ → SampleHead → Type 0) (held held_after : List Bool)
+    (voice voice_after : Option Voice) : Type 0 where
   pub kept : IsKept before c voice → IsKept after c voice_after
   pub exact : get_or held c false ≡ is_some voice → get_or held_after c false ≡ is_some voice_after
   pub others : (d : ℕ) (h : SampleHead) → d ≢ c → before d h → after d h
   pub alone : held_after ≡ set held c (get_or held_after c false)
 
 abbrev pub AreKept : (ℕ → SampleHead → Type 0) → List Channel → Type 0
-AreKept keeps channels = (c : ℕ) → c < length channels → IsKept keeps c (get_or channels c blank_channel).voice
+AreKept keeps channels =
+    (c : ℕ) → c < length channels → IsKept keeps c (get_or channels c blank_channel).voice
 
 -- a channel keeps a sample exactly where it has a voice
 abbrev pub AreExact : List Bool → List Channel → Type 0
-AreExact held channels = (c : ℕ) → c < length channels → get_or held c false ≡ is_some (get_or channels c blank_channel).voice
+AreExact held channels =
+    (c : ℕ) → c < length channels
+    → get_or held c false ≡ is_some (get_or channels c blank_channel).voice
 
 -- the same for all channels
-pub record KeepsForAll (before after : ℕ → SampleHead → Type 0) (held held_after : List Bool) (channels channels_after : List Channel) : Type 0 where
+pub record KeepsForAll (before after : ℕ → SampleHead → Type 0) (held held_after : List Bool)
+    (channels channels_after : List Channel) : Type 0 where
   pub kept : AreKept before channels → AreKept after channels_after
   pub exact : AreExact held channels → AreExact held_after channels_after
   pub many : length channels_after ≡ length channels
@@ -92,7 +114,8 @@ abbrev pub AreVoicesExact : List Bool → List Voice → Type 0
 AreVoicesExact held voices = (c : ℕ) → c < length held → get_or held c false ≡ sounds_on c voices
 
 -- before and after a call between ticks
-pub record KeepsVoices (before after : ℕ → SampleHead → Type 0) (held held_after : List Bool) (voices voices_after : List Voice) : Type 0 where
+pub record KeepsVoices (before after : ℕ → SampleHead → Type 0) (held held_after : List Bool)
+    (voices voices_after : List Voice) : Type 0 where
   pub kept : AreVoicesKept before voices → AreVoicesKept after voices_after
   pub exact : AreVoicesExact held voices → AreVoicesExact held_after voices_after
   pub wide : length held_after ≡ length held

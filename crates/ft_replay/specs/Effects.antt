@@ -17,11 +17,14 @@ low parameter = parameter % 16
 
 -- an arpeggio by nothing is none
 abbrev pub arpeggio_of : ℕ → Effect
-arpeggio_of parameter = if parameter == 0 then Nothing else Arpeggio (high parameter) (low parameter)
+arpeggio_of parameter =
+    if parameter == 0 then Nothing else Arpeggio (high parameter) (low parameter)
 
 -- a row in decimal digits; past 63 it is the first
 abbrev pub decimal_row : ℕ → ℕ
-decimal_row parameter = if nat_le (10 * high parameter + low parameter) 63 then 10 * high parameter + low parameter else 0
+decimal_row parameter =
+    if nat_le (10 * high parameter + low parameter) 63 then 10 * high parameter + low parameter
+    else 0
 
 -- E, by its first digit
 unfoldable pub extended : ℕ → ℕ → Effect
@@ -43,11 +46,14 @@ extended digit y =
 
 -- F: ticks per row, or beats per minute
 abbrev pub speed : ℕ → Effect
-speed parameter = if parameter == 0 then Nothing else (if nat_le parameter 31 then Tempo parameter else Bpm parameter)
+speed parameter =
+    if parameter == 0 then Nothing
+    else (if nat_le parameter 31 then Tempo parameter else Bpm parameter)
 
 -- X, by its first digit
 abbrev pub extra_fine : ℕ → ℕ → Effect
-extra_fine digit y = if digit == 1 then ExtraFineUp y else (if digit == 2 then ExtraFineDown y else Nothing)
+extra_fine digit y =
+    if digit == 1 then ExtraFineUp y else (if digit == 2 then ExtraFineDown y else Nothing)
 
 -- 0 to 9, and A to F
 unfoldable pub digit_effect : ℕ → ℕ → Effect
@@ -83,7 +89,8 @@ letter_effect number parameter =
     else Nothing)))))))
 
 unfoldable pub effect_of : ℕ → ℕ → Effect
-effect_of number parameter = if nat_le number 15 then digit_effect number parameter else letter_effect number parameter
+effect_of number parameter =
+    if nat_le number 15 then digit_effect number parameter else letter_effect number parameter
 
 abbrev pub effect_in : Cell → Effect
 effect_in cell = effect_of cell.effect cell.parameter

@@ -1,4 +1,5 @@
--- What is heard of a channel in a tick: the gains and the step of its voice; and how envelopes, automatic vibrato and fade go on.
+-- What is heard of a channel in a tick: the gains and the step of its voice; and how envelopes,
+-- automatic vibrato and fade go on.
 use Rattle.std.specs.Prelude.{ℕ, ◌+◌, ◌-◌, ◌*◌, ◌/◌, ◌%◌, ◌^◌, ◌==◌, ◌&&◌, ◌||◌, ℤ, pos, ◌+ℤ◌, ◌-ℤ◌, ◌*ℤ◌, Bool, true, Option, Some, None, min, nat_abs, nat_le, if◌then◌else◌}
 use Rattle.std.specs.Int.{int_min, int_max}
 use Rattle.ft_types.specs.declared.module.Module.{Module}
@@ -22,7 +23,8 @@ brought_into low high z = nat_abs (int_max low (int_min z high))
 
 -- with what a tremolo adds; nothing where a tremor mutes
 unfoldable pub heard_volume : Channel → ℕ
-heard_volume channel = if channel.muted then 0 else brought_into (pos 0) (pos 64) (pos channel.vol +ℤ channel.trem_off)
+heard_volume channel =
+    if channel.muted then 0 else brought_into (pos 0) (pos 64) (pos channel.vol +ℤ channel.trem_off)
 
 -- the gain of a voice by volume, global volume, envelope and fade; 65,536 where all are full
 unfoldable pub gain_of : ℕ → ℕ → ℕ → ℕ → ℕ
@@ -61,14 +63,18 @@ glided_period channel =
     then (pos channel.target +ℤ in_semitones (pos channel.period -ℤ pos channel.target))
     else pos channel.period
 
--- as many semitones higher as the arpeggio says, at least 1; glissando is only known to linear periods
+-- as many semitones higher as the arpeggio says, at least 1; glissando is only known to linear
+-- periods
 unfoldable pub stepped_period : Bool → Channel → ℤ
 stepped_period linear channel =
-    int_max (pos 1) (if linear then (glided_period channel -ℤ pos (64 * channel.arp)) else pos (amiga_higher channel.arp channel.period))
+    int_max (pos 1)
+        (if linear then (glided_period channel -ℤ pos (64 * channel.arp))
+            else pos (amiga_higher channel.arp channel.period))
 
 -- with what a vibrato and the automatic vibrato add: 1 to 31,999
 unfoldable pub heard_period : Bool → ℤ → Channel → ℕ
-heard_period linear offset channel = brought_into (pos 1) (pos 31999) ((stepped_period linear channel +ℤ channel.vib_off) +ℤ offset)
+heard_period linear offset channel =
+    brought_into (pos 1) (pos 31999) ((stepped_period linear channel +ℤ channel.vib_off) +ℤ offset)
 
 -- ---- the automatic vibrato
 
@@ -78,10 +84,14 @@ auto_wave kind = if kind == 0 then 0 else (if kind == 1 then 2 else (if kind == 
 
 -- it comes to its depth by and by, within so many ticks
 abbrev pub auto_depth : Vibrato → ℕ → ℕ
-auto_depth vibrato age = if vibrato.sweep == 0 || nat_le vibrato.sweep age then vibrato.depth else vibrato.depth * age / vibrato.sweep
+auto_depth vibrato age =
+    if vibrato.sweep == 0 || nat_le vibrato.sweep age then vibrato.depth
+    else vibrato.depth * age / vibrato.sweep
 
 unfoldable pub auto_offset : Vibrato → Channel → ℤ
-auto_offset vibrato channel = parts_of (wave_of (auto_wave vibrato.kind) (channel.auto_pos / 4)) (auto_depth vibrato channel.auto_age) 256
+auto_offset vibrato channel =
+    parts_of (wave_of (auto_wave vibrato.kind) (channel.auto_pos / 4))
+    (auto_depth vibrato channel.auto_age) 256
 
 abbrev pub offset_by : Option Shape → Channel → ℤ
 offset_by None channel = pos 0
@@ -90,9 +100,12 @@ offset_by (Some shape) channel = auto_offset shape.vibrato channel
 -- ---- the voice
 
 -- by its envelopes, and with what the automatic vibrato adds to the period
-unfoldable pub heard_voice : Bool → ℕ → ℕ → Option Envelope → Option Envelope → ℤ → Channel → Voice → Voice
+unfoldable pub heard_voice : Bool → ℕ → ℕ → Option Envelope → Option Envelope → ℤ → Channel → Voice
+    → Voice
 heard_voice linear rate global volume panning offset channel voice =
-    let gain = gain_of (heard_volume channel) global (heard_envelope 64 volume channel.vol_env) channel.fade in
+    let gain =
+        gain_of (heard_volume channel) global (heard_envelope 64 volume channel.vol_env)
+        channel.fade in
     let pan = heard_panning channel.pan (heard_envelope 32 panning channel.pan_env) in
     record voice {
       step = step_of linear rate (heard_period linear offset channel);
@@ -140,14 +153,18 @@ with_fade fadeout channel =
     else channel
 
 -- the voice gets its gains and its step, and then envelopes, automatic vibrato and fade go on
-abbrev pub heard_by : ℕ → ℕ → Bool → Option Envelope → Option Envelope → Option Shape → Option Voice → Channel → Channel
+abbrev pub heard_by : ℕ → ℕ → Bool → Option Envelope → Option Envelope → Option Shape → Option Voice
+    → Channel → Channel
 heard_by rate global linear volume panning shape None channel = channel
 heard_by rate global linear volume panning shape (Some voice) channel =
-    let heard = heard_voice linear rate global volume panning (offset_by shape channel) channel voice in
-    with_fade (fadeout_of shape) (with_auto_by shape (with_envelopes volume panning (record channel { voice = Some heard })))
+    let heard =
+        heard_voice linear rate global volume panning (offset_by shape channel) channel voice in
+    with_fade (fadeout_of shape)
+        (with_auto_by shape (with_envelopes volume panning (record channel { voice = Some heard })))
 
 -- a channel with a voice, by the instrument of its number
 unfoldable pub heard_channel : ℕ → Control → Module → Channel → Channel
 heard_channel rate control song channel =
     let instrument = instrument_at song channel.instrument in
-    heard_by rate control.global song.linear (envelope_in instrument 0) (envelope_in instrument 1) (shape_in instrument) channel.voice channel
+    heard_by rate control.global song.linear (envelope_in instrument 0) (envelope_in instrument 1)
+        (shape_in instrument) channel.voice channel

@@ -4,7 +4,9 @@ use Rattle.ft_replay.specs.declared.state.Channel.{Channel}
 
 -- a parameter other than 0 is remembered
 abbrev pub with_memory : ℕ → ℕ → Channel → Channel
-with_memory place parameter channel = if parameter == 0 then channel else record channel { memory = set channel.memory place parameter }
+with_memory place parameter channel =
+    if parameter == 0 then channel
+    else record channel { memory = set channel.memory place parameter }
 
 abbrev pub remembered : ℕ → Channel → ℕ
 remembered place channel = slice_index channel.memory place

@@ -47,7 +47,8 @@ pub record IsChannelInRange (c : ℕ) (channel : Channel) : Type 0 where
   pub home : (voice : Voice) → channel.voice ≡ Some voice → voice.channel ≡ c
 
 abbrev pub AreInRange : List Channel → Type 0
-AreInRange channels = (c : ℕ) → c < length channels → IsChannelInRange c (get_or channels c blank_channel)
+AreInRange channels =
+    (c : ℕ) → c < length channels → IsChannelInRange c (get_or channels c blank_channel)
 
 -- ---- the control
 
@@ -96,7 +97,8 @@ pub record IsInRange (time : Control) (all : List Channel) : Type 0 where
 -- ---- between ticks
 
 -- the voices stand in ascending channels, in their list; none stands in its channel
-pub record IsBetweenTicks (used : ℕ) (time : Control) (all : List Channel) (sounding : List Voice) : Type 0 where
+pub record IsBetweenTicks (used : ℕ) (time : Control) (all : List Channel) (sounding : List Voice) :
+    Type 0 where
   pub few : used ≤ 32
   pub room : used ≤ length all
   pub control : IsControlInRange used time

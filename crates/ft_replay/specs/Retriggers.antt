@@ -16,7 +16,8 @@ abbrev pub restarted : Channel → Channel
 restarted channel = record channel { voice = from_start channel.voice }
 
 abbrev pub retrigger : ℕ → ℕ → Channel → Channel
-retrigger u interval channel = if not (interval == 0) && u % interval == 0 then restarted channel else channel
+retrigger u interval channel =
+    if not (interval == 0) && u % interval == 0 then restarted channel else channel
 
 -- what R makes of a volume, by its first digit
 unfoldable pub retriggered_volume : ℕ → ℕ → ℕ

@@ -35,13 +35,23 @@ is_instrument cell = not (cell.instrument == 0) && not (cell.note == 97)
 -- ---- the instrument byte
 
 abbrev pub with_instrument : Cell → Channel → Channel
-with_instrument cell channel = if cell.instrument == 0 then channel else record channel { instrument = cell.instrument }
+with_instrument cell channel =
+    if cell.instrument == 0 then channel else record channel { instrument = cell.instrument }
 
 -- ---- the note
 
 -- a voice at a frame of its sample; gains and step are those of its first tick
 abbrev pub new_voice : ℕ → ℕ → SampleHead → Voice
-new_voice c frame head = record { channel = c; head = head; pos = frame * 2 ^ 32; step = 0; left = 0; right = 0; last = false }
+new_voice c frame head =
+    record {
+      channel = c;
+      head = head;
+      pos = frame * 2 ^ 32;
+      step = 0;
+      left = 0;
+      right = 0;
+      last = false;
+    }
 
 -- the waves of vibrato and tremolo begin anew, unless bit 2 of their kind is set
 abbrev pub with_new_waves : Channel → Channel
@@ -53,7 +63,8 @@ with_new_waves channel = record channel {
 }
 
 abbrev pub with_voice : Voice → ℕ → Channel → Channel
-with_voice voice period channel = record (with_new_waves channel) { voice = Some voice; period = period; target = period }
+with_voice voice period channel =
+    record (with_new_waves channel) { voice = Some voice; period = period; target = period }
 
 -- the frame at which a note of this row begins: effect 9 says it, by what the channel remembers
 abbrev pub start_frame_by : Effect → Channel → ℕ
@@ -70,11 +81,13 @@ start_finetune effect head = head.finetune
 
 -- the period of a note that is played, by a sample's relative note
 abbrev pub tuned_period : Module → Cell → ℤ → ℤ → ℕ
-tuned_period song cell relative finetune = period_of song.linear (nat_abs (played_note cell.note relative)) finetune
+tuned_period song cell relative finetune =
+    period_of song.linear (nat_abs (played_note cell.note relative)) finetune
 
 -- the period of a note that begins
 abbrev pub note_period : Module → Cell → SampleHead → ℕ
-note_period song cell head = tuned_period song cell head.relative (start_finetune (effect_in cell) head)
+note_period song cell head =
+    tuned_period song cell head.relative (start_finetune (effect_in cell) head)
 
 -- what a note makes of its lane, and whether it began a voice
 pub record Start : Type 0 where
@@ -92,7 +105,10 @@ start_of song c cell frame (Some owned) lane =
     let head = head_of owned.sample in
     if is_played (played_note cell.note head.relative) && nat_lt frame head.frames
     then record {
-      lane = record { channel = with_voice (new_voice c frame head) (note_period song cell head) lane.channel; owned = Some owned };
+      lane = record {
+        channel = with_voice (new_voice c frame head) (note_period song cell head) lane.channel;
+        owned = Some owned;
+      };
       began = true;
     }
     else no_start (without_voice lane)
@@ -132,24 +148,36 @@ with_key_off song channel = record channel {
 
 -- a note that begins, or ends what sounds there
 abbrev pub begin_of : ℕ → Module → ℕ → Cell → Lane → Start
-begin_of version song c cell lane = start_of song c cell (start_frame cell lane.channel) (begun version song lane.channel.instrument (cell.note - 1)) lane
+begin_of version song c cell lane =
+    start_of song c cell (start_frame cell lane.channel)
+    (begun version song lane.channel.instrument (cell.note - 1)) lane
 
 unfoldable pub note_of : ℕ → Module → ℕ → Cell → Lane → Start
 note_of version song c cell lane =
     if cell.note == 97 then no_start (with_channel (with_key_off song) lane)
     else (if not (is_note cell) then no_start lane
-    else (if is_towards cell && is_some lane.channel.voice then no_start (with_channel (with_target song cell) lane)
+    else (if is_towards cell && is_some lane.channel.voice
+        then no_start (with_channel (with_target song cell) lane)
     else begin_of version song c cell lane))
 
 -- ---- what a note or an instrument byte sets anew
 
 abbrev pub as_new : Channel → Channel
-as_new channel = record channel { released = false; fade = 32768; vol_env = 0; pan_env = 0; auto_pos = 0; auto_age = 0 }
+as_new channel =
+    record channel {
+      released = false;
+      fade = 32768;
+      vol_env = 0;
+      pan_env = 0;
+      auto_pos = 0;
+      auto_age = 0;
+    }
 
 -- volume and panning of the sounding voice's sample
 abbrev pub with_levels : Option Voice → Channel → Channel
 with_levels None channel = channel
-with_levels (Some voice) channel = record channel { vol = voice.head.volume; pan = voice.head.panning }
+with_levels (Some voice) channel =
+    record channel { vol = voice.head.volume; pan = voice.head.panning }
 
 unfoldable pub after_note : Bool → Cell → Channel → Channel
 after_note began cell channel =
@@ -167,7 +195,10 @@ with_offset effect channel = channel
 unfoldable pub strike_of : ℕ → Module → ℕ → Cell → Lane → Lane
 strike_of version song c cell lane =
     let start = note_of version song c cell (with_channel (with_instrument cell) lane) in
-    with_channel (λ channel. volume_start_of (volume_effect_of cell.volume) (after_note start.began cell channel)) start.lane
+    with_channel
+        (λ channel.
+            volume_start_of (volume_effect_of cell.volume) (after_note start.began cell channel))
+        start.lane
 
 -- a key off by effect K, where this is its tick
 abbrev pub key_off_at : Module → ℕ → Effect → Channel → Channel
@@ -177,7 +208,9 @@ key_off_at song u effect channel = channel
 -- what the effect does at the start of a row
 unfoldable pub effect_start_of : Module → ℕ → Effect → Turn → Turn
 effect_start_of song c effect turn =
-    let channel = key_off_at song 0 effect (rules.setting_start effect (rules.slide_start effect turn.lane.channel)) in
+    let channel =
+        key_off_at song 0 effect
+        (rules.setting_start effect (rules.slide_start effect turn.lane.channel)) in
     rules.loop_start c effect (record {
       lane = record turn.lane { channel = channel };
       control = rules.control_start effect turn.control;
@@ -193,20 +226,29 @@ unfoldable pub row_start_of : ℕ → Module → ℕ → Cell → Turn → Turn
 row_start_of version song c cell turn =
     let effect = effect_in cell in
     if is_delayed effect then turn
-    else effect_start_of song c effect (record turn { lane = strike_of version song c cell (with_channel (with_offset effect) turn.lane) })
+    else effect_start_of song c effect
+        (record turn {
+              lane = strike_of version song c cell (with_channel (with_offset effect) turn.lane);
+            })
 
 -- ---- its later ticks
 
 -- a delayed note, where this is its tick
 abbrev pub delayed_strike : ℕ → Module → ℕ → Cell → ℕ → Effect → Lane → Lane
-delayed_strike version song c cell u (NoteDelay tick) lane = if tick == u then strike_of version song c cell lane else lane
+delayed_strike version song c cell u (NoteDelay tick) lane =
+    if tick == u then strike_of version song c cell lane else lane
 delayed_strike version song c cell u effect lane = lane
 
 -- what the effect does in a later tick u
 unfoldable pub effect_tick_of : Module → ℕ → Effect → Turn → Turn
 effect_tick_of song u effect turn =
-    let channel = key_off_at song u effect (rules.swing_tick u effect (rules.slide_tick effect turn.lane.channel)) in
-    record { lane = record turn.lane { channel = channel }; control = rules.control_tick effect channel turn.control }
+    let channel =
+        key_off_at song u effect
+        (rules.swing_tick u effect (rules.slide_tick effect turn.lane.channel)) in
+    record {
+          lane = record turn.lane { channel = channel };
+          control = rules.control_tick effect channel turn.control;
+        }
 
 -- a later tick u of the row: the volume byte, then a delayed note or the effect
 unfoldable pub row_tick_of : ℕ → Module → ℕ → ℕ → Turn → Turn
@@ -214,4 +256,5 @@ row_tick_of version song c u turn =
     let cell = turn.lane.channel.cell in
     let effect = effect_in cell in
     let lane = with_channel (volume_tick_of (volume_effect_of cell.volume)) turn.lane in
-    effect_tick_of song u effect (record turn { lane = delayed_strike version song c cell u effect lane })
+    effect_tick_of song u effect
+        (record turn { lane = delayed_strike version song c cell u effect lane })

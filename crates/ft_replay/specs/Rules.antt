@@ -77,13 +77,17 @@ abbrev pub with_envelope_positions : ℕ → Channel → Channel
 with_envelope_positions position channel = record channel { vol_env = position; pan_env = position }
 
 abbrev pub with_retrigger : ℕ → ℕ → Channel → Channel
-with_retrigger change interval channel = with_memory memory.retrigger_interval interval (with_memory memory.retrigger_change change channel)
+with_retrigger change interval channel =
+    with_memory memory.retrigger_interval interval
+    (with_memory memory.retrigger_change change channel)
 
 abbrev pub with_vibrato : ℕ → ℕ → Channel → Channel
-with_vibrato speed depth channel = swings.with_vibrato_depth depth (swings.with_vibrato_speed speed channel)
+with_vibrato speed depth channel =
+    swings.with_vibrato_depth depth (swings.with_vibrato_speed speed channel)
 
 abbrev pub with_tremolo : ℕ → ℕ → Channel → Channel
-with_tremolo speed depth channel = swings.with_tremolo_depth depth (swings.with_tremolo_speed speed channel)
+with_tremolo speed depth channel =
+    swings.with_tremolo_depth depth (swings.with_tremolo_speed speed channel)
 
 abbrev pub with_tremor : ℕ → Channel → Channel
 with_tremor times channel = retriggers.tremor_start (with_memory memory.tremor times channel)
@@ -107,10 +111,12 @@ setting_start effect channel = channel
 
 -- effects that slide by what they remember, at each tick
 abbrev pub portamento_up : Channel → Channel
-portamento_up channel = slides.with_lower_period (4 * remembered memory.portamento_up channel) channel
+portamento_up channel =
+    slides.with_lower_period (4 * remembered memory.portamento_up channel) channel
 
 abbrev pub portamento_down : Channel → Channel
-portamento_down channel = slides.with_higher_period (4 * remembered memory.portamento_down channel) channel
+portamento_down channel =
+    slides.with_higher_period (4 * remembered memory.portamento_down channel) channel
 
 abbrev pub tone_portamento_slide : Channel → Channel
 tone_portamento_slide channel = slides.volume_slide (slides.tone_portamento channel)
@@ -151,7 +157,8 @@ control_start effect control = control
 
 -- the global volume slides by what the channel remembers
 unfoldable pub control_tick : Effect → Channel → Control → Control
-control_tick (GlobalSlide change) channel control = sequence.global_slide (remembered memory.global_slide channel) control
+control_tick (GlobalSlide change) channel control =
+    sequence.global_slide (remembered memory.global_slide channel) control
 control_tick effect channel control = control
 
 -- ---- on both

@@ -21,23 +21,28 @@ with_higher_period amount channel = record channel { period = raised amount chan
 
 -- towards another period, and not past it
 abbrev pub towards : ℕ → ℕ → ℕ → ℕ
-towards target amount period = if nat_lt period target then min target (period + amount) else max target (period - amount)
+towards target amount period =
+    if nat_lt period target then min target (period + amount) else max target (period - amount)
 
 -- the period goes to the target; where either is none it stays
 abbrev pub tone_portamento : Channel → Channel
 tone_portamento channel = record channel {
-  period = if channel.period == 0 || channel.target == 0 then channel.period else towards channel.target (4 * channel.tone_speed) channel.period;
+  period =
+      if channel.period == 0 || channel.target == 0 then channel.period
+      else towards channel.target (4 * channel.tone_speed) channel.period;
   gliding = true;
 }
 
 abbrev pub with_tone_speed : ℕ → Channel → Channel
-with_tone_speed speed channel = if speed == 0 then channel else record channel { tone_speed = speed }
+with_tone_speed speed channel =
+    if speed == 0 then channel else record channel { tone_speed = speed }
 
 -- ---- volumes and pannings
 
 -- up by the first digit where it isn't 0, else down by the second
 abbrev pub slid : ℕ → ℕ → ℕ → ℕ
-slid most change level = if high change == 0 then level - low change else min most (level + high change)
+slid most change level =
+    if high change == 0 then level - low change else min most (level + high change)
 
 abbrev pub with_volume_up : ℕ → Channel → Channel
 with_volume_up change channel = record channel { vol = min 64 (channel.vol + change) }
@@ -52,7 +57,9 @@ abbrev pub with_panning_left : ℕ → Channel → Channel
 with_panning_left change channel = record channel { pan = channel.pan - change }
 
 abbrev pub volume_slide : Channel → Channel
-volume_slide channel = record channel { vol = slid 64 (memory.remembered memory.volume_slide channel) channel.vol }
+volume_slide channel =
+    record channel { vol = slid 64 (memory.remembered memory.volume_slide channel) channel.vol }
 
 abbrev pub panning_slide : Channel → Channel
-panning_slide channel = record channel { pan = slid 255 (memory.remembered memory.panning_slide channel) channel.pan }
+panning_slide channel =
+    record channel { pan = slid 255 (memory.remembered memory.panning_slide channel) channel.pan }

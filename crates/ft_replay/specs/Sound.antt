@@ -10,12 +10,13 @@ use Rattle.ft_replay.specs.Row.{without_voice}
 
 -- ---- the value of a voice
 
--- the steps of a turn of a loop, after which it is at its first frame again: a ping-pong loop goes on to its last frame and back,
--- and one of a single frame stays on it
+-- the steps of a turn of a loop, after which it is at its first frame again: a ping-pong loop goes
+-- on to its last frame and back, and one of a single frame stays on it
 abbrev pub loop_turn : SampleHead → ℕ
 loop_turn head = if head.loop_kind == 2 then max 1 (2 * head.loop_len - 2) else head.loop_len
 
--- the frame of a loop, from its first, so many steps into a turn: a ping-pong loop is reflected at its last frame
+-- the frame of a loop, from its first, so many steps into a turn: a ping-pong loop is reflected at
+-- its last frame
 abbrev pub reflected : SampleHead → ℕ → ℕ
 reflected head steps = if nat_lt steps head.loop_len then steps else loop_turn head - steps
 
@@ -23,8 +24,9 @@ reflected head steps = if nat_lt steps head.loop_len then steps else loop_turn h
 abbrev pub end_of : SampleHead → ℕ
 end_of head = if head.loop_kind == 0 then head.frames else head.loop_start + head.loop_len
 
--- the place of a frame that is reached, which counts on without ever turning: up to the end of the loop, or of a sample without
--- one, it is that place; past the end of a loop it is found by whole turns, and past the end of a sample there is none
+-- the place of a frame that is reached, which counts on without ever turning: up to the end of the
+-- loop, or of a sample without one, it is that place; past the end of a loop it is found by whole
+-- turns, and past the end of a sample there is none
 unfoldable pub place_of : SampleHead → ℕ → Option ℕ
 place_of head frame =
     if nat_lt frame (end_of head) then Some frame
@@ -97,14 +99,17 @@ sound_of lanes (suc frames) = sound_of lanes frames ++ frame_at lanes frames
 
 abbrev pub voices_sum : (Option Owned → Voice → ℤ) → List (Option Owned) → List Voice → ℤ
 voices_sum side kept [] = pos 0
-voices_sum side kept (voice ∷ voices) = side (get_or kept voice.channel None) voice +ℤ voices_sum side kept voices
+voices_sum side kept (voice ∷ voices) =
+    side (get_or kept voice.channel None) voice +ℤ voices_sum side kept voices
 
 unfoldable pub frame_of_voices : List (Option Owned) → List Voice → ℕ → List ℤ
-frame_of_voices kept voices i = stereo (voices_sum (left_of i) kept voices) (voices_sum (right_of i) kept voices)
+frame_of_voices kept voices i =
+    stereo (voices_sum (left_of i) kept voices) (voices_sum (right_of i) kept voices)
 
 unfoldable pub sound_of_voices : List (Option Owned) → List Voice → ℕ → List ℤ
 sound_of_voices kept voices zero = []
-sound_of_voices kept voices (suc frames) = sound_of_voices kept voices frames ++ frame_of_voices kept voices frames
+sound_of_voices kept voices (suc frames) =
+    sound_of_voices kept voices frames ++ frame_of_voices kept voices frames
 
 -- ---- what a tick leaves of a voice
 
@@ -114,13 +119,19 @@ reached frames voice = voice.pos + frames * voice.step
 
 -- a voice ends after its last tick, and without a loop where its position has passed all its frames
 abbrev pub is_ended : ℕ → Voice → Bool
-is_ended frames voice = voice.last || ((voice.head.loop_kind == 0) && not (nat_lt (reached frames voice / 2 ^ 32) voice.head.frames))
+is_ended frames voice =
+    voice.last
+    || ((voice.head.loop_kind == 0)
+        && not (nat_lt (reached frames voice / 2 ^ 32) voice.head.frames))
 
--- a position past the end of a loop is brought back by whole turns; in a ping-pong loop it may still be on its way back
+-- a position past the end of a loop is brought back by whole turns; in a ping-pong loop it may
+-- still be on its way back
 unfoldable pub brought_back : SampleHead → ℕ → ℕ
 brought_back head position =
-    if (head.loop_kind == 0) || nat_lt (position / 2 ^ 32) (head.loop_start + head.loop_len) then position
-    else (head.loop_start + (position / 2 ^ 32 - head.loop_start) % loop_turn head) * 2 ^ 32 + position % 2 ^ 32
+    if (head.loop_kind == 0) || nat_lt (position / 2 ^ 32) (head.loop_start + head.loop_len)
+        then position
+    else (head.loop_start + (position / 2 ^ 32 - head.loop_start) % loop_turn head) * 2 ^ 32
+        + position % 2 ^ 32
 
 abbrev pub voice_after : ℕ → Voice → Voice
 voice_after frames voice = record voice { pos = brought_back voice.head (reached frames voice) }
@@ -147,9 +158,11 @@ voices_after frames (voice ∷ voices) =
 abbrev pub shown_after : ℕ → List Voice → Shown → Shown
 shown_after frames [] shown = shown
 shown_after frames (voice ∷ voices) shown =
-    if is_ended frames voice then shown_after frames voices (keeping voice.channel None shown) else shown_after frames voices shown
+    if is_ended frames voice then shown_after frames voices (keeping voice.channel None shown)
+        else shown_after frames voices shown
 
 abbrev pub holds_after : ℕ → List Voice → List Bool → List Bool
 holds_after frames [] holds = holds
 holds_after frames (voice ∷ voices) holds =
-    if is_ended frames voice then holds_after frames voices (set holds voice.channel false) else holds_after frames voices holds
+    if is_ended frames voice then holds_after frames voices (set holds voice.channel false)
+        else holds_after frames voices holds

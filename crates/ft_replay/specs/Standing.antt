@@ -23,7 +23,8 @@ pub record Became (c : ℕ) (lane : Lane) (before after : Shown) (channel : Chan
   pub kept : after ≡ keeping c lane.owned before
 
 -- and the control is this
-pub record Turned (c : ℕ) (turn : Turn) (before after : Shown) (channel : Channel) (control : Control) : Type 0 where
+pub record Turned (c : ℕ) (turn : Turn) (before after : Shown) (channel : Channel)
+    (control : Control) : Type 0 where
   pub lane : Became c turn.lane before after channel
   pub same : control ≡ turn.control
 
@@ -33,14 +34,16 @@ pub record Turned (c : ℕ) (turn : Turn) (before after : Shown) (channel : Chan
 abbrev pub lanes_of : List Channel → List (Option Owned) → List Lane
 lanes_of [] kept = []
 lanes_of (channel ∷ channels) [] = record { channel = channel; owned = None } ∷ lanes_of channels []
-lanes_of (channel ∷ channels) (owned ∷ kept) = record { channel = channel; owned = owned } ∷ lanes_of channels kept
+lanes_of (channel ∷ channels) (owned ∷ kept) =
+    record { channel = channel; owned = owned } ∷ lanes_of channels kept
 
 -- the state behind a control, channels, and what a view shows
 abbrev pub state_of : Control → List Channel → Shown → SequentialState
 state_of control channels shown = record { control = control; lanes = lanes_of channels shown.kept }
 
 -- what a call made of the state, as a function of the version and the song
-pub record Made (rule : ℕ → Module → SequentialState → SequentialState) (before after : Shown) (old new : SequentialState) : Type 0 where
+pub record Made (rule : ℕ → Module → SequentialState → SequentialState) (before after : Shown)
+    (old new : SequentialState) : Type 0 where
   pub version : after.version ≡ before.version
   pub song : after.song ≡ before.song
   pub state : new ≡ rule before.version before.song old
@@ -49,7 +52,9 @@ pub record Made (rule : ℕ → Module → SequentialState → SequentialState) 
 
 -- a voice sits on its channel
 abbrev pub seat_of : Voice → List Channel → List Channel
-seat_of voice channels = set channels voice.channel (record (get_or channels voice.channel blank_channel) { voice = Some voice })
+seat_of voice channels =
+    set channels voice.channel
+    (record (get_or channels voice.channel blank_channel) { voice = Some voice })
 
 -- each voice sits on its channel
 abbrev pub seated : List Channel → List Voice → List Channel
@@ -75,4 +80,5 @@ sequential_of song shown = state_of song.control (channels_of song) shown
 -- voices on ascending channels, from one on and below another, and so none twice on a channel
 unfoldable pub IsAscending : ℕ → ℕ → List Voice → Type 0
 IsAscending low high [] = Unit {0}
-IsAscending low high (voice ∷ voices) = (low ≤ voice.channel) × (voice.channel < high) × IsAscending (voice.channel + 1) high voices
+IsAscending low high (voice ∷ voices) =
+    (low ≤ voice.channel) × (voice.channel < high) × IsAscending (voice.channel + 1) high voices

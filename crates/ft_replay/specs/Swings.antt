@@ -19,10 +19,12 @@ wave_kind kind = min (kind % 4) 2
 -- ---- vibrato
 
 abbrev pub with_vibrato_speed : ℕ → Channel → Channel
-with_vibrato_speed speed channel = if speed == 0 then channel else record channel { vib_speed = speed }
+with_vibrato_speed speed channel =
+    if speed == 0 then channel else record channel { vib_speed = speed }
 
 abbrev pub with_vibrato_depth : ℕ → Channel → Channel
-with_vibrato_depth depth channel = if depth == 0 then channel else record channel { vib_depth = depth }
+with_vibrato_depth depth channel =
+    if depth == 0 then channel else record channel { vib_depth = depth }
 
 abbrev pub vibrato : Channel → Channel
 vibrato channel = record channel {
@@ -33,14 +35,17 @@ vibrato channel = record channel {
 -- ---- tremolo
 
 abbrev pub with_tremolo_speed : ℕ → Channel → Channel
-with_tremolo_speed speed channel = if speed == 0 then channel else record channel { trem_speed = speed }
+with_tremolo_speed speed channel =
+    if speed == 0 then channel else record channel { trem_speed = speed }
 
 abbrev pub with_tremolo_depth : ℕ → Channel → Channel
-with_tremolo_depth depth channel = if depth == 0 then channel else record channel { trem_depth = depth }
+with_tremolo_depth depth channel =
+    if depth == 0 then channel else record channel { trem_depth = depth }
 
 abbrev pub tremolo : Channel → Channel
 tremolo channel = record channel {
-  trem_off = parts_of (wave_of (wave_kind channel.trem_kind) channel.trem_pos) channel.trem_depth 64;
+  trem_off =
+      parts_of (wave_of (wave_kind channel.trem_kind) channel.trem_pos) channel.trem_depth 64;
   trem_pos = (channel.trem_pos + channel.trem_speed) % 64;
 }
 
@@ -48,4 +53,5 @@ tremolo channel = record channel {
 
 -- the note, the first number of semitones above it, and the second, in turn
 abbrev pub arpeggio : ℕ → ℕ → ℕ → Channel → Channel
-arpeggio u x y channel = record channel { arp = if u % 3 == 0 then 0 else (if u % 3 == 1 then x else y) }
+arpeggio u x y channel =
+    record channel { arp = if u % 3 == 0 then 0 else (if u % 3 == 1 then x else y) }

@@ -25,19 +25,24 @@ without_loop channel = record channel { loop_row = 0; loop_count = 0 }
 -- a setting of the order position, at a row: the loops of rows end on all channels
 abbrev pub at_position : ℕ → ℕ → SequentialState → SequentialState
 at_position position row state =
-    with_channels without_loop (with_control (record state.control { pos = position; row = row }) state)
+    with_channels without_loop
+        (with_control (record state.control { pos = position; row = row }) state)
 
 -- the first tick of all takes tempo and BPM from the song
 abbrev pub with_song_tempo : Module → Control → Control
-with_song_tempo song control = if control.tempo == 0 then record control { tempo = song.tempo; bpm = song.bpm } else control
+with_song_tempo song control =
+    if control.tempo == 0 then record control { tempo = song.tempo; bpm = song.bpm } else control
 
 -- an order position past the song is the restart, at its first row
 abbrev pub within_orders : Module → SequentialState → SequentialState
-within_orders song state = if nat_lt state.control.pos (length song.orders) then state else at_position song.restart 0 state
+within_orders song state =
+    if nat_lt state.control.pos (length song.orders) then state
+    else at_position song.restart 0 state
 
 -- the order position after one; past the song it is the restart
 abbrev pub next_order : Module → ℕ → ℕ
-next_order song position = if nat_lt (position + 1) (length song.orders) then position + 1 else song.restart
+next_order song position =
+    if nat_lt (position + 1) (length song.orders) then position + 1 else song.restart
 
 -- a row past the pattern is the first of the next order position
 abbrev pub within_rows : Module → SequentialState → SequentialState
@@ -49,7 +54,8 @@ within_rows song state =
 unfoldable pub at_place : Module → SequentialState → SequentialState
 at_place song state =
     if state.control.tick == 0
-    then within_rows song (within_orders song (with_control (with_song_tempo song state.control) state))
+    then within_rows song
+        (within_orders song (with_control (with_song_tempo song state.control) state))
     else state
 
 -- ---- the rules of the row, channel by channel
@@ -70,16 +76,19 @@ in_turn rule (suc channels) state = one_turn rule channels (in_turn rule channel
 
 -- offsets and mutes hold for one tick
 abbrev pub without_offsets : Channel → Channel
-without_offsets channel = record channel { vib_off = pos 0; trem_off = pos 0; arp = 0; gliding = false; muted = false }
+without_offsets channel =
+    record channel { vib_off = pos 0; trem_off = pos 0; arp = 0; gliding = false; muted = false }
 
 -- at the start of a row each channel keeps its cell
 abbrev pub first_turn : ℕ → Module → ℕ → Turn → Turn
 first_turn version song c turn =
     let cell = cell_at song (order_at song turn.control.pos) turn.control.row c in
-    row_start_of version song c cell (record turn { lane = with_channel (λ channel. record channel { cell = cell }) turn.lane })
+    row_start_of version song c cell
+        (record turn { lane = with_channel (λ channel. record channel { cell = cell }) turn.lane })
 
 abbrev pub later_turn : ℕ → Module → ℕ → Turn → Turn
-later_turn version song c turn = row_tick_of version song c (turn.control.tick % turn.control.tempo) turn
+later_turn version song c turn =
+    row_tick_of version song c (turn.control.tick % turn.control.tempo) turn
 
 -- where a row is repeated, its tick 0 has no rule
 unfoldable pub after_rows : ℕ → Module → SequentialState → SequentialState
@@ -100,18 +109,20 @@ abbrev pub leads_on : Control → Bool
 leads_on control = is_some control.jump || is_some control.to_row
 
 -- the next row is the first of a loop that is still to be played; or else where a jump or a break
--- leads, which is the first row where none is named, of the next order position where none is named;
--- or else the row below
+-- leads, which is the first row where none is named, of the next order position where none is
+-- named; or else the row below
 abbrev pub row_by : Option ℕ → SequentialState → SequentialState
 row_by (Some c) state = with_control (record state.control { row = loop_row_of c state }) state
 row_by None state =
     if leads_on state.control
-    then at_position (unwrap_or state.control.jump (state.control.pos + 1)) (unwrap_or state.control.to_row 0) state
+    then at_position (unwrap_or state.control.jump (state.control.pos + 1))
+        (unwrap_or state.control.to_row 0) state
     else with_control (record state.control { row = state.control.row + 1 }) state
 
 -- a row begins: nothing is pending any more
 abbrev pub at_first_tick : Control → Control
-at_first_tick control = record control { tick = 0; delay = 0; jump = None; to_row = None; back = None }
+at_first_tick control =
+    record control { tick = 0; delay = 0; jump = None; to_row = None; back = None }
 
 unfoldable pub next_row : SequentialState → SequentialState
 next_row state =
@@ -132,14 +143,20 @@ pub record TickState : Type 0 where
   pub place : Place
 
 -- by a rule of what is heard of a channel
-abbrev pub tick_by : (Control → Module → Channel → Channel) → ℕ → Module → ℕ → SequentialState → TickState
+abbrev pub tick_by : (Control → Module → Channel → Channel) → ℕ → Module → ℕ → SequentialState
+    → TickState
 tick_by hear version song rate state =
     let at = at_place song state in
     let done = after_rows version song at in
     let timed = with_control (with_carry rate done.control) done in
     record {
       state = next_tick (with_channels (hear timed.control song) timed);
-      place = record { order = at.control.pos; row = at.control.row; tick = at.control.tick; frames = tick_frames rate done.control };
+      place = record {
+        order = at.control.pos;
+        row = at.control.row;
+        tick = at.control.tick;
+        frames = tick_frames rate done.control;
+      };
     }
 
 unfoldable pub tick_state_of : ℕ → Module → ℕ → SequentialState → TickState
@@ -155,7 +172,9 @@ unfoldable pub seq_tick : ℕ → Module → ℕ → SequentialState → Tick
 seq_tick version song rate state =
     let silent = tick_state_of version song rate state in
     record {
-      state = record silent.state { lanes = map (lane_after silent.place.frames) silent.state.lanes };
+      state = record silent.state {
+        lanes = map (lane_after silent.place.frames) silent.state.lanes;
+      };
       place = silent.place;
       sound = sound_of silent.state.lanes silent.place.frames;
     }

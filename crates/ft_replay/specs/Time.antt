@@ -11,4 +11,5 @@ tick_frames rate control = tick_room rate control / (2 * control.bpm)
 
 -- the control with the rest for the next tick
 abbrev pub with_carry : ℕ → Control → Control
-with_carry rate control = record control { carry = tick_room rate control % (2 * control.bpm); last_bpm = control.bpm }
+with_carry rate control =
+    record control { carry = tick_room rate control % (2 * control.bpm); last_bpm = control.bpm }

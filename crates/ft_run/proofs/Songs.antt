@@ -1,6 +1,6 @@
 -- What a run tells of its song, wherever it ends.
 use Rattle.std.proofs.Common.{◌≡◌, ◌≢◌, ℕ, ◌+◌, ◌<◌, ◌≤◌, List, [], length, Option, Some, inl, inr, ◌⊎◌, refl, sym, subst, arith}
-use Rattle.std.specs.Prelude.{IfOk, IfErr, IfSome, Result, Ok, Err}
+use Rattle.std.specs.Prelude.{IfSome, Result, Err}
 use Rattle.ft_types.specs.declared.module.Module.{Module}
 use Rattle.ft_format.specs.Spelling.{Spells}
 use Rattle.ft_outer.specs.Counts.{Rose}
@@ -13,13 +13,14 @@ use Rattle.ft_run.specs.declared.status.Status.{Status}
 use Rattle.ft_run.specs.declared.status.Status.TheVariants as statuses
 use Rattle.ft_run.specs.declared.status.SongFault.{SongFault}
 use Rattle.ft_run.specs.declared.status.SongFault.TheVariants.{Xm, TooBig}
-use Rattle.ft_run.specs.Songs.{ReadsSong, IsSongFile, ending}
+use Rattle.ft_run.specs.Songs.{ReadsSong}
 use Rattle.ft_run.specs.Statuses.{IsAccepted, IsAfterReading, IsOfCopy, IsUnread, RefusesSong, refusal_of}
 
 -- ---- sources
 
 -- a source that is told gave all that it held
-pub told_file : (old new : Option (List ℕ)) (file bytes : List ℕ) → old ≡ Some file → GivesAll old new bytes → bytes ≡ file
+pub told_file : (old new : Option (List ℕ)) (file bytes : List ℕ) → old ≡ Some file → GivesAll old new bytes
+    → bytes ≡ file
 told_file old new file bytes e all =
     let told : GivesAll (Some file) new bytes = subst (λ (held : Option (List ℕ)). GivesAll held new bytes) e all in
     told.0
@@ -42,10 +43,13 @@ never_memory faults.NoMemory e = cc
 never_memory found e = cc
 
 -- the fault of the status is the bytes' own
-is_fault : (file : List ℕ) (found fault : XmFault) → refusal_of found ≡ statuses.Song (Xm fault) → IsFaultOf file found → HasFault file fault
+is_fault : (file : List ℕ) (found fault : XmFault) → refusal_of found ≡ statuses.Song (Xm fault) → IsFaultOf file found
+    → HasFault file fault
 is_fault file found fault e (inr given) = subst (λ (f : XmFault). HasFault file f) (same_fault found fault e) given
 is_fault file found fault e (inl wanting) =
-    let other : statuses.NoMemory ≡ statuses.Song (Xm fault) = subst (λ (f : XmFault). refusal_of f ≡ statuses.Song (Xm fault)) wanting e in absurd cc
+    let other : statuses.NoMemory ≡ statuses.Song (Xm fault) =
+        subst (λ (f : XmFault). refusal_of f ≡ statuses.Song (Xm fault)) wanting e in
+        absurd cc
 
 -- no song is read where memory is wanting
 pub accepts : (found : XmFault) → found ≡ faults.NoMemory → IsAccepted (refusal_of found)
@@ -56,7 +60,8 @@ refuses_own faults.NoMemory = tt
 refuses_own fault = refl
 
 -- a fault of the bytes is the status's, unless memory was wanting
-refuses : (found fault : XmFault) → (found ≡ fault) ⊎ (found ≡ faults.NoMemory) → RefusesSong (refusal_of found) (Xm fault)
+refuses : (found fault : XmFault) → (found ≡ fault) ⊎ (found ≡ faults.NoMemory)
+    → RefusesSong (refusal_of found) (Xm fault)
 refuses found fault (inl e) = subst (λ (f : XmFault). RefusesSong (refusal_of found) (Xm f)) e (refuses_own found)
 refuses found fault (inr e) = subst (λ (f : XmFault). RefusesSong (refusal_of f) (Xm fault)) (sym e) tt
 
@@ -122,7 +127,8 @@ module _ {Source : Type 0} (left : Source → Option (List ℕ)) (given failed :
   }
 
   -- the source gave too much
-  pub gave_more : failed new ≡ failed old → given old + MOST_BYTES < given new → HasMore (left old) MOST_BYTES → Reads (statuses.Song TooBig)
+  pub gave_more : failed new ≡ failed old → given old + MOST_BYTES < given new → HasMore (left old) MOST_BYTES
+      → Reads (statuses.Song TooBig)
   gave_more kept more held = record {
     count = record { told = λ e. absurd cc; kept = λ _. kept };
     too_big = (λ _. more, λ _. refl);
@@ -131,7 +137,8 @@ module _ {Source : Type 0} (left : Source → Option (List ℕ)) (given failed :
     fault = λ file fault told e. absurd cc;
     refused = λ file fault told has. absurd (omega (arith, told.1, told_more (left old) file MOST_BYTES told.0 held));
     never_memory = λ e. cc;
-    accepted = λ file song told spelled. absurd (omega (arith, told.1, told_more (left old) file MOST_BYTES told.0 held));
+    accepted =
+        λ file song told spelled. absurd (omega (arith, told.1, told_more (left old) file MOST_BYTES told.0 held));
     whole = λ after. absurd after;
   }
 
@@ -142,7 +149,8 @@ module _ {Source : Type 0} (left : Source → Option (List ℕ)) (given failed :
 
     not_longer : (file : List ℕ) → left old ≡ Some file → MOST_BYTES < length file → ⊥
     not_longer file told longer =
-        let same : MOST_BYTES < length bytes = subst (λ (it : List ℕ). MOST_BYTES < length it) (sym (whole_of file told)) longer in
+        let same : MOST_BYTES < length bytes =
+            subst (λ (it : List ℕ). MOST_BYTES < length it) (sym (whole_of file told)) longer in
         omega (arith, few, some, same)
 
     -- all was read, and is a song
@@ -153,7 +161,9 @@ module _ {Source : Type 0} (left : Source → Option (List ℕ)) (given failed :
       held_more = λ file told e. absurd cc;
       told_more = λ file told longer. absurd (not_longer file told longer);
       fault = λ file fault told e. absurd cc;
-      refused = λ file fault told has. sound fault (subst (λ (it : List ℕ). HasFault it fault) (sym (whole_of file told.0)) has);
+      refused =
+          λ file fault told has.
+          sound fault (subst (λ (it : List ℕ). HasFault it fault) (sym (whole_of file told.0)) has);
       never_memory = λ e. cc;
       accepted = λ file song told spelled. tt;
       whole = λ _. told_end (left old) (left new) bytes all;
@@ -168,11 +178,16 @@ module _ {Source : Type 0} (left : Source → Option (List ℕ)) (given failed :
       too_big = (λ e. absurd (refusal_small found e), λ more. absurd (omega (arith, more, few)));
       held_more = λ file told e. absurd (refusal_small found e);
       told_more = λ file told longer. absurd (not_longer file told longer);
-      fault = λ file fault told e. is_fault file found fault e (subst (λ (it : List ℕ). IsFaultOf it found) (whole_of file told) is);
+      fault =
+          λ file fault told e.
+          is_fault file found fault e (subst (λ (it : List ℕ). IsFaultOf it found) (whole_of file told) is);
       refused = λ file fault told has.
-          refuses found fault (first fault (subst (λ (it : List ℕ). HasFault it fault) (sym (whole_of file told.0)) has));
+          refuses found fault
+              (first fault (subst (λ (it : List ℕ). HasFault it fault) (sym (whole_of file told.0)) has));
       never_memory = never_memory found;
-      accepted = λ file song told spelled. accepts found (only song (subst (λ (it : List ℕ). Spells it song) (sym (whole_of file told.0)) spelled));
+      accepted =
+          λ file song told spelled.
+          accepts found (only song (subst (λ (it : List ℕ). Spells it song) (sym (whole_of file told.0)) spelled));
       whole = λ after. absurd (refusal_early found after);
     }
 

@@ -15,13 +15,15 @@ use Rattle.ft_replay.specs.Tick.{Tick, seq_tick}
 
 -- the sound of so many ticks of a version of a song, and the state after them
 abbrev pub sound_after : ℕ → Module → ℕ → SequentialState → ℕ → List ℤ
-sound_after version song rate state ticks = sound_of_ticks (ticks_from (λ version. song) (replicate ticks version) rate state)
+sound_after version song rate state ticks =
+    sound_of_ticks (ticks_from (λ version. song) (replicate ticks version) rate state)
 
 abbrev pub after_ticks : ℕ → Module → ℕ → SequentialState → ℕ → SequentialState
 after_ticks version song rate state ticks = state_after (λ version. song) (replicate ticks version) rate state
 
 -- so many ticks were written; all of them are whole, but maybe the last
-pub record Underway (version : ℕ) (song : Module) (rate frames : ℕ) (first : SequentialState) (old now : Option (List ℕ)) (state : SequentialState) (left : ℕ) : Type 0 where
+pub record Underway (version : ℕ) (song : Module) (rate frames : ℕ) (first : SequentialState)
+    (old now : Option (List ℕ)) (state : SequentialState) (left : ℕ) : Type 0 where
   pub ticks : ℕ
   pub played : ℕ
   pub at : state ≡ after_ticks version song rate first ticks
@@ -35,15 +37,21 @@ pub record Underway (version : ℕ) (song : Module) (rate frames : ℕ) (first :
 
 pub sound_bytes-append : (a b : List ℤ) → sound_bytes (a ++ b) ≡ sound_bytes a ++ sound_bytes b
 sound_bytes-append [] b = refl
-sound_bytes-append (x ∷ a) b = ap (λ (l : List ℕ). number_bytes x ++ l) (sound_bytes-append a b) ∙ sym (append_assoc (number_bytes x) (sound_bytes a) (sound_bytes b))
+sound_bytes-append (x ∷ a) b =
+    ap (λ (l : List ℕ). number_bytes x ++ l) (sound_bytes-append a b)
+    ∙ sym (append_assoc (number_bytes x) (sound_bytes a) (sound_bytes b))
 
 ticks-append : (a b : List Tick) → sound_of_ticks (a ++ b) ≡ sound_of_ticks a ++ sound_of_ticks b
 ticks-append [] b = refl
-ticks-append (x ∷ a) b = ap (λ (l : List ℤ). x.sound ++ l) (ticks-append a b) ∙ sym (append_assoc x.sound (sound_of_ticks a) (sound_of_ticks b))
+ticks-append (x ∷ a) b =
+    ap (λ (l : List ℤ). x.sound ++ l) (ticks-append a b)
+    ∙ sym (append_assoc x.sound (sound_of_ticks a) (sound_of_ticks b))
 
 replicate-add : (m n version : ℕ) → replicate (m + n) version ≡ replicate m version ++ replicate n version
 replicate-add zero n version = ap (λ (k : ℕ). replicate k version) (let e : zero + n ≡ n = omega arith in e)
-replicate-add (suc m) n version = ap (λ (k : ℕ). replicate k version) (let e : suc m + n ≡ suc (m + n) = omega arith in e) ∙ ap (λ (l : List ℕ). version ∷ l) (replicate-add m n version)
+replicate-add (suc m) n version =
+    ap (λ (k : ℕ). replicate k version) (let e : suc m + n ≡ suc (m + n) = omega arith in e)
+    ∙ ap (λ (l : List ℕ). version ∷ l) (replicate-add m n version)
 
 -- what is read of the first list alone, and past it
 take_within : (n : ℕ) (a b : List ℤ) → n ≤ length a → take n (a ++ b) ≡ take n a
@@ -55,24 +63,30 @@ take_past n a b le =
     ap (λ (k : ℕ). take k (a ++ b)) e ∙ take-append-add a b (n - length a)
 
 -- a tick that is cut by what is left
-cut_same : (sound : List ℤ) (n left count : ℕ) → length sound ≡ 2 * n → count ≡ min n left → take (2 * left) sound ≡ take (2 * count) sound
+cut_same : (sound : List ℤ) (n left count : ℕ) → length sound ≡ 2 * n → count ≡ min n left
+    → take (2 * left) sound ≡ take (2 * count) sound
 cut_same sound n left count many least =
     cond_both (ltb left n) tt tt (λ (x : Unit {0}). take (2 * left) sound ≡ take (2 * count) sound)
-    (λ is. let lt = ltb-true left n is in ap (λ (k : ℕ). take (2 * k) sound) (let e : left ≡ count = omega (arith, least) in e))
+    (λ is.
+        let lt = ltb-true left n is in
+        ap (λ (k : ℕ). take (2 * k) sound) (let e : left ≡ count = omega (arith, least) in e))
     (λ is.
     let le = ltb-false left n is in
     let e : count ≡ n = omega (arith, least) in
     take_all (2 * left) sound (omega arith) ∙ sym (take_all (2 * count) sound (omega arith)))
 
-piece_within : (sound : List ℤ) (n left count : ℕ) → length sound ≡ 2 * n → count ≡ min n left → length (take (2 * count) sound) ≤ 2 * left
+piece_within : (sound : List ℤ) (n left count : ℕ) → length sound ≡ 2 * n → count ≡ min n left
+    → length (take (2 * count) sound) ≤ 2 * left
 piece_within sound n left count many least = omega (arith, length-take (2 * count) sound, least)
 
-left_after : (n left count played frames : ℕ) → count ≡ min n left → left ≡ frames - played → left - count ≡ frames - (played + n)
+left_after : (n left count played frames : ℕ) → count ≡ min n left → left ≡ frames - played
+    → left - count ≡ frames - (played + n)
 left_after n left count played frames least rest = omega (arith, least, rest)
 
 -- ---- one tick more
 
-module _ (ticks_law : TicksGoOn) (state_law : StateGoesOn) (version : ℕ) (song : Module) (rate : ℕ) (first : SequentialState) where
+module _ (ticks_law : TicksGoOn) (state_law : StateGoesOn) (version : ℕ) (song : Module) (rate : ℕ)
+    (first : SequentialState) where
   abbrev T : ℕ → List ℤ
   T ticks = sound_after version song rate first ticks
 
@@ -83,29 +97,38 @@ module _ (ticks_law : TicksGoOn) (state_law : StateGoesOn) (version : ℕ) (song
   sound_then m n =
       ap (λ (l : List ℕ). sound_of_ticks (ticks_from (λ _. song) l rate first)) (replicate-add m n version)
       ∙ ap sound_of_ticks (ticks_law (λ _. song) (replicate m version) (replicate n version) rate first)
-      ∙ ticks-append (ticks_from (λ _. song) (replicate m version) rate first) (ticks_from (λ _. song) (replicate n version) rate (after_ticks version song rate first m))
+      ∙ ticks-append (ticks_from (λ _. song) (replicate m version) rate first)
+          (ticks_from (λ _. song) (replicate n version) rate (after_ticks version song rate first m))
 
-  state_then : (m n : ℕ) → after_ticks version song rate first (m + n) ≡ after_ticks version song rate (after_ticks version song rate first m) n
+  state_then : (m n : ℕ)
+      → after_ticks version song rate first (m + n)
+          ≡ after_ticks version song rate (after_ticks version song rate first m) n
   state_then m n =
       ap (λ (l : List ℕ). state_after (λ _. song) l rate first) (replicate-add m n version)
       ∙ state_law (λ _. song) (replicate m version) (replicate n version) rate first
 
-  sound_next : (ticks : ℕ) (state : SequentialState) → state ≡ after_ticks version song rate first ticks → T (ticks + 1) ≡ T ticks ++ (next state).sound
+  sound_next : (ticks : ℕ) (state : SequentialState) → state ≡ after_ticks version song rate first ticks
+      → T (ticks + 1) ≡ T ticks ++ (next state).sound
   sound_next ticks state e =
       sound_then ticks 1 ∙ ap (λ (s : SequentialState). T ticks ++ sound_after version song rate s 1) (sym e)
       ∙ ap (λ (l : List ℤ). T ticks ++ l) (append-nil (next state).sound)
 
-  state_next : (ticks : ℕ) (state : SequentialState) → state ≡ after_ticks version song rate first ticks → (next state).state ≡ after_ticks version song rate first (ticks + 1)
-  state_next ticks state e = sym (state_then ticks 1 ∙ ap (λ (s : SequentialState). after_ticks version song rate s 1) (sym e))
+  state_next : (ticks : ℕ) (state : SequentialState) → state ≡ after_ticks version song rate first ticks
+      → (next state).state ≡ after_ticks version song rate first (ticks + 1)
+  state_next ticks state e = sym
+      (state_then ticks 1 ∙ ap (λ (s : SequentialState). after_ticks version song rate s 1) (sym e))
 
   -- so far the ticks were whole
-  so_far : (frames left : ℕ) (old now : Option (List ℕ)) (state : SequentialState) (u : Underway version song rate frames first old now state left) → 1 ≤ left
+  so_far : (frames left : ℕ) (old now : Option (List ℕ)) (state : SequentialState)
+      (u : Underway version song rate frames first old now state left) → 1 ≤ left
       → Appends old now (sound_bytes (T u.ticks))
   so_far frames left old now state u some =
       let rest = u.rest in let long = u.long in
-      subst (λ (l : List ℤ). Appends old now (sound_bytes l)) (take_all (2 * frames) (T u.ticks) (omega (arith, long, rest))) u.took
+      subst (λ (l : List ℤ). Appends old now (sound_bytes l))
+          (take_all (2 * frames) (T u.ticks) (omega (arith, long, rest))) u.took
 
-  pub begins : TakesNothingFirst → TakesAllLast → (frames : ℕ) (old : Option (List ℕ)) → Underway version song rate frames first old old first frames
+  pub begins : TakesNothingFirst → TakesAllLast → (frames : ℕ) (old : Option (List ℕ))
+      → Underway version song rate frames first old old first frames
   begins nothing all frames old = record {
     ticks = 0;
     played = 0;
@@ -114,11 +137,16 @@ module _ (ticks_law : TicksGoOn) (state_law : StateGoesOn) (version : ℕ) (song
     few = omega arith;
     slow = omega arith;
     rest = omega arith;
-    took = subst (λ (l : List ℤ). Appends old old (sound_bytes l)) (sym (take_all (2 * frames) [] (omega arith))) (all old old [] [] (nothing old []) refl);
+    took =
+        subst (λ (l : List ℤ). Appends old old (sound_bytes l)) (sym (take_all (2 * frames) [] (omega arith)))
+        (all old old [] [] (nothing old []) refl);
   }
 
-  pub goes_on : AppendsInTurn → (frames left n count : ℕ) (old now later : Option (List ℕ)) (state : SequentialState) (u : Underway version song rate frames first old now state left)
-      → 1 ≤ left → length (next state).sound ≡ 2 * n → 1 ≤ n → count ≡ min n left → Appends now later (sound_bytes (take (2 * count) (next state).sound))
+  pub goes_on : AppendsInTurn
+      → (frames left n count : ℕ) (old now later : Option (List ℕ)) (state : SequentialState)
+          (u : Underway version song rate frames first old now state left)
+      → 1 ≤ left → length (next state).sound ≡ 2 * n → 1 ≤ n → count ≡ min n left
+          → Appends now later (sound_bytes (take (2 * count) (next state).sound))
       → Underway version song rate frames first old later (next state).state (left - count)
   goes_on joined frames left n count old now later state u some many ticks least took =
       let rest = u.rest in let long = u.long in let slow = u.slow in let few = u.few in
@@ -128,7 +156,8 @@ module _ (ticks_law : TicksGoOn) (state_law : StateGoesOn) (version : ℕ) (song
       let gap : 2 * frames - length (T u.ticks) ≡ 2 * left = omega (arith, long, rest) in
       let whole : take (2 * frames) (T (u.ticks + 1)) ≡ T u.ticks ++ take (2 * count) sound =
       ap (take (2 * frames)) more ∙ take_past (2 * frames) (T u.ticks) sound within
-      ∙ ap (λ (k : ℕ). T u.ticks ++ take k sound) gap ∙ ap (λ (l : List ℤ). T u.ticks ++ l) (cut_same sound n left count many least) in
+      ∙ ap (λ (k : ℕ). T u.ticks ++ take k sound) gap
+          ∙ ap (λ (l : List ℤ). T u.ticks ++ l) (cut_same sound n left count many least) in
       record {
         ticks = u.ticks + 1;
         played = u.played + n;
@@ -142,20 +171,29 @@ module _ (ticks_law : TicksGoOn) (state_law : StateGoesOn) (version : ℕ) (song
             (joined old now later (sound_bytes (T u.ticks)) (sound_bytes (take (2 * count) sound)) (so_far frames left old now state u some) took));
       }
 
-  pub ends : (frames left : ℕ) (old now : Option (List ℕ)) (state : SequentialState) (u : Underway version song rate frames first old now state left) → left ≡ 0
+  pub ends : (frames left : ℕ) (old now : Option (List ℕ)) (state : SequentialState)
+      (u : Underway version song rate frames first old now state left) → left ≡ 0
       → Appends old now (sound_bytes (sound_from version song frames rate first))
   unfolding sound_from
   ends frames left old now state u none =
       let rest = u.rest in let long = u.long in let few = u.few in
       let others = frames - u.ticks in
-      let all : T frames ≡ T u.ticks ++ sound_after version song rate (after_ticks version song rate first u.ticks) others =
+      let all : T frames
+          ≡ T u.ticks ++ sound_after version song rate (after_ticks version song rate first u.ticks) others =
       ap T (let e : frames ≡ u.ticks + others = omega arith in e) ∙ sound_then u.ticks others in
       subst (λ (l : List ℤ). Appends old now (sound_bytes l))
-      (sym (ap (take (2 * frames)) all ∙ take_within (2 * frames) (T u.ticks) (sound_after version song rate (after_ticks version song rate first u.ticks) others) (omega (arith, long, rest, none))))
+      (sym
+          (ap (take (2 * frames)) all
+              ∙ take_within (2 * frames) (T u.ticks)
+                  (sound_after version song rate (after_ticks version song rate first u.ticks) others)
+                  (omega (arith, long, rest, none))))
       u.took
 
-  pub cut : TakesFrontLast → (frames left n count : ℕ) (old now later : Option (List ℕ)) (state : SequentialState) (u : Underway version song rate frames first old now state left)
-      → 1 ≤ left → length (next state).sound ≡ 2 * n → count ≡ min n left → TakesFront now later (sound_bytes (take (2 * count) (next state).sound))
+  pub cut : TakesFrontLast
+      → (frames left n count : ℕ) (old now later : Option (List ℕ)) (state : SequentialState)
+          (u : Underway version song rate frames first old now state left)
+      → 1 ≤ left → length (next state).sound ≡ 2 * n → count ≡ min n left
+          → TakesFront now later (sound_bytes (take (2 * count) (next state).sound))
       → TakesFront old later (sound_bytes (sound_from version song frames rate first))
   unfolding sound_from
   cut front frames left n count old now later state u some many least part =
@@ -172,22 +210,29 @@ module _ (ticks_law : TicksGoOn) (state_law : StateGoesOn) (version : ℕ) (song
       ap T (let e : frames ≡ (u.ticks + 1) + others = omega (arith, rest, slow) in e) ∙ sound_then (u.ticks + 1) others
       ∙ ap (λ (l : List ℤ). l ++ tail) (sound_next u.ticks state u.at) ∙ append_assoc (T u.ticks) sound tail in
       let split : sound ++ tail ≡ piece ++ left_over =
-      ap (λ (l : List ℤ). l ++ tail) (sym (take-append-drop (2 * count) sound)) ∙ append_assoc piece (drop (2 * count) sound) tail in
+      ap (λ (l : List ℤ). l ++ tail) (sym (take-append-drop (2 * count) sound))
+          ∙ append_assoc piece (drop (2 * count) sound) tail in
       let whole : take (2 * frames) (T frames) ≡ T u.ticks ++ (piece ++ q) =
       ap (take (2 * frames)) all ∙ take_past (2 * frames) (T u.ticks) (sound ++ tail) within
-      ∙ ap (λ (k : ℕ). T u.ticks ++ take k (sound ++ tail)) gap ∙ ap (λ (l : List ℤ). T u.ticks ++ take (2 * left) l) split
-      ∙ ap (λ (l : List ℤ). T u.ticks ++ l) (take_past (2 * left) piece left_over (piece_within sound n left count many least)) in
-      let bytes : sound_bytes (take (2 * frames) (T frames)) ≡ sound_bytes (T u.ticks) ++ (sound_bytes piece ++ sound_bytes q) =
-      ap sound_bytes whole ∙ sound_bytes-append (T u.ticks) (piece ++ q) ∙ ap (λ (l : List ℕ). sound_bytes (T u.ticks) ++ l) (sound_bytes-append piece q) in
+      ∙ ap (λ (k : ℕ). T u.ticks ++ take k (sound ++ tail)) gap
+          ∙ ap (λ (l : List ℤ). T u.ticks ++ take (2 * left) l) split
+      ∙ ap (λ (l : List ℤ). T u.ticks ++ l)
+          (take_past (2 * left) piece left_over (piece_within sound n left count many least)) in
+      let bytes : sound_bytes (take (2 * frames) (T frames))
+          ≡ sound_bytes (T u.ticks) ++ (sound_bytes piece ++ sound_bytes q) =
+      ap sound_bytes whole ∙ sound_bytes-append (T u.ticks) (piece ++ q)
+          ∙ ap (λ (l : List ℕ). sound_bytes (T u.ticks) ++ l) (sound_bytes-append piece q) in
       front old now later (sound_bytes (take (2 * frames) (T frames))) (sound_bytes piece) (sound_bytes q)
       (record { front = sound_bytes (T u.ticks); whole = bytes; taken = so_far frames left old now state u some }) part
 
 -- ---- the numbers of a tick
 
 -- a front of the numbers is a front of the tick's sound
-pub piece_of : (out sound : List ℤ) (frames count : ℕ) → take (2 * frames) out ≡ sound → count ≤ frames → take (2 * count) out ≡ take (2 * count) sound
+pub piece_of : (out sound : List ℤ) (frames count : ℕ) → take (2 * frames) out ≡ sound → count ≤ frames
+    → take (2 * count) out ≡ take (2 * count) sound
 piece_of out sound frames count e le =
     sym (ap (take (2 * count)) (sym e) ∙ take-take (2 * count) (2 * frames) out (omega arith))
 
-pub sound_long : (out sound : List ℤ) (frames : ℕ) → take (2 * frames) out ≡ sound → 2 * frames ≤ length out → length sound ≡ 2 * frames
+pub sound_long : (out sound : List ℤ) (frames : ℕ) → take (2 * frames) out ≡ sound → 2 * frames ≤ length out
+    → length sound ≡ 2 * frames
 sound_long out sound frames e le = sym (ap (λ (l : List ℤ). length l) e) ∙ (omega (arith, length-take (2 * frames) out))

@@ -20,7 +20,8 @@ frames_asked step = step.rate * step.seconds
 
 -- the WAV file of a song: its replay from the beginning, for so many frames
 unfoldable pub wav_of : Module → Step → List ℕ
-wav_of song step = wav_bytes step.rate (frames_asked step) (sound_of_song song (frames_asked step) step.rate)
+wav_of song step =
+    wav_bytes step.rate (frames_asked step) (sound_of_song song (frames_asked step) step.rate)
 
 -- the WAV file of the song that the source held, where that is told
 pub record IsOutput (step : Step) (held : Option (List ℕ)) (bytes : List ℕ) : Type 0 where

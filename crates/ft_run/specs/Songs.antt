@@ -15,8 +15,8 @@ use Rattle.ft_run.specs.Statuses.{IsCounted, IsAccepted, IsAfterReading, Refuses
 abbrev pub IsSongFile : Option (List ℕ) → List ℕ → Type 0
 IsSongFile held file = (held ≡ Some file) × (length file ≤ MOST_BYTES)
 
--- What a run tells of the song of a source. Of the source it is known what it has left, where that is
--- told, how many bytes it gave, and how often it failed.
+-- What a run tells of the song of a source. Of the source it is known what it has left, where that
+-- is told, how many bytes it gave, and how often it failed.
 pub record ReadsSong {Source : Type 0} (left : Source → Option (List ℕ))
     (given faults : Source → ℕ) (old new : Source) (result : Status) : Type 0 where
   -- it could not be read only where the source counted a fault, and else none was counted

@@ -28,11 +28,13 @@ pub lowest : (note : ℕ) → note ≤ 119 → 28 ≤ amiga_note note
 lowest note le = leb-true 28 (amiga_note note) (at_each (λ (n : ℕ). leb 28 (amiga_note n)) 120 refl note (omega arith))
 
 pub highest : (note : ℕ) → note ≤ 119 → amiga_before note ≤ 28992
-highest note le = leb-true (amiga_before note) 28992 (at_each (λ (n : ℕ). leb (amiga_before n) 28992) 120 refl note (omega arith))
+highest note le =
+    leb-true (amiga_before note) 28992 (at_each (λ (n : ℕ). leb (amiga_before n) 28992) 120 refl note (omega arith))
 
 -- a finetune from 0 on goes towards the next note, and one below 0 towards the one before
 pub tuned_up : (note : ℕ) (finetune : ℤ) → pos 0 ≤ℤ finetune
-    → amiga_note note - (amiga_note note - amiga_note (note + 1)) * nat_abs finetune / 128 ≡ amiga_period_of note finetune
+    → amiga_note note - (amiga_note note - amiga_note (note + 1)) * nat_abs finetune / 128
+        ≡ amiga_period_of note finetune
 unfolding amiga_period_of
 tuned_up note (pos up) le = refl
 tuned_up note (negsuc down) le = absurd (omega (arith, ints))
@@ -42,4 +44,5 @@ pub tuned_down : (note : ℕ) (finetune : ℤ) → finetune ≤ℤ negsuc 0
 unfolding amiga_period_of
 tuned_down note (pos up) le = absurd (omega (arith, ints))
 tuned_down note (negsuc down) le =
-    ap (λ (n : ℕ). amiga_note note + (amiga_before note - amiga_note note) * n / 128) {x = suc down} {y = down + 1} (omega arith)
+    ap (λ (n : ℕ). amiga_note note + (amiga_before note - amiga_note note) * n / 128) {x = suc down} {y = down + 1}
+        (omega arith)

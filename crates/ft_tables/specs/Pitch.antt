@@ -1,4 +1,5 @@
--- Pitch: the notes that are played, their periods, the frequencies of periods, and the steps of voices.
+-- Pitch: the notes that are played, their periods, the frequencies of periods, and the steps of
+-- voices.
 use Rattle.std.specs.Prelude.{ℕ, zero, suc, ◌+◌, ◌-◌, ◌*◌, ◌/◌, ◌%◌, ◌^◌, ℤ, pos, negsuc, ◌+ℤ◌, ◌-ℤ◌, ◌*ℤ◌, Bool, false, List, [], ◌∷◌, slice_index, nat_le, nat_lt, nat_abs, if◌then◌else◌}
 use Rattle.std.specs.Int.Signed.{shr_z}
 
@@ -38,18 +39,23 @@ amiga_before (suc note) = amiga_note note
 
 -- with a finetune of 1/128 semitone: on the straight line to the next note, or to the one before
 unfoldable pub amiga_period_of : ℕ → ℤ → ℕ
-amiga_period_of note (pos up) = amiga_note note - (amiga_note note - amiga_note (note + 1)) * up / 128
-amiga_period_of note (negsuc down) = amiga_note note + (amiga_before note - amiga_note note) * (down + 1) / 128
+amiga_period_of note (pos up) =
+    amiga_note note - (amiga_note note - amiga_note (note + 1)) * up / 128
+amiga_period_of note (negsuc down) =
+    amiga_note note + (amiga_before note - amiga_note note) * (down + 1) / 128
 
 -- the period of a note that is played, of either kind
 abbrev pub period_of : Bool → ℕ → ℤ → ℕ
-period_of linear note finetune = if linear then linear_period_of note finetune else amiga_period_of note finetune
+period_of linear note finetune =
+    if linear then linear_period_of note finetune else amiga_period_of note finetune
 
 -- ---- frequencies
 
 -- powers of two by twelfths of an octave, of 65,536
 abbrev pub twelfths : List ℕ
-twelfths = 65536 ∷ 69433 ∷ 73562 ∷ 77936 ∷ 82570 ∷ 87480 ∷ 92682 ∷ 98193 ∷ 104032 ∷ 110218 ∷ 116772 ∷ 123715 ∷ 131072 ∷ []
+twelfths =
+    65536 ∷ 69433 ∷ 73562 ∷ 77936 ∷ 82570 ∷ 87480 ∷ 92682 ∷ 98193 ∷ 104032 ∷ 110218 ∷ 116772
+    ∷ 123715 ∷ 131072 ∷ []
 
 -- a power of two below one octave, 768 parts of it: a straight line within each twelfth
 unfoldable pub power_at : ℕ → ℕ
@@ -62,19 +68,22 @@ abbrev pub by_octaves : ℕ → ℤ → ℕ
 by_octaves n (pos up) = n * 2 ^ up
 by_octaves n (negsuc down) = n / 2 ^ (down + 1)
 
--- the frequency of a linear period in 1/65,536 Hz: 8,363 Hz at 4608, and an octave for each 768 below
+-- the frequency of a linear period in 1/65,536 Hz: 8,363 Hz at 4608, and an octave for each 768
+-- below
 unfoldable pub linear_frequency_of : ℕ → ℕ
 linear_frequency_of period =
     let d = pos 4608 -ℤ pos period in
     let octave = floor_div d 768 in
     by_octaves (8363 * power_at (nat_abs (d -ℤ (pos 768 *ℤ octave)))) octave
 
--- the frequency of an Amiga period: 8,363 Hz at 1712, and half of it where the period is twice as long
+-- the frequency of an Amiga period: 8,363 Hz at 1712, and half of it where the period is twice as
+-- long
 unfoldable pub amiga_frequency_of : ℕ → ℕ
 amiga_frequency_of period = 8363 * 1712 * 65536 / period
 
 unfoldable pub frequency16_of : Bool → ℕ → ℕ
-frequency16_of linear period = if linear then linear_frequency_of period else amiga_frequency_of period
+frequency16_of linear period =
+    if linear then linear_frequency_of period else amiga_frequency_of period
 
 -- an Amiga period so many semitones higher; from an octave on it is halved first
 unfoldable pub amiga_higher : ℕ → ℕ → ℕ

@@ -3,11 +3,14 @@ use Rattle.std.specs.Prelude.{ℕ, ◌-◌, ◌*◌, ◌%◌, ◌==◌, ℤ, pos
 
 -- the first quarter of a sine, up to 255
 abbrev pub sines : List ℕ
-sines = 0 ∷ 24 ∷ 49 ∷ 74 ∷ 97 ∷ 120 ∷ 141 ∷ 161 ∷ 180 ∷ 197 ∷ 212 ∷ 224 ∷ 235 ∷ 244 ∷ 250 ∷ 253 ∷ 255 ∷ []
+sines =
+    0 ∷ 24 ∷ 49 ∷ 74 ∷ 97 ∷ 120 ∷ 141 ∷ 161 ∷ 180 ∷ 197 ∷ 212 ∷ 224 ∷ 235 ∷ 244 ∷ 250 ∷ 253 ∷ 255
+    ∷ []
 
 -- its first half: the second quarter is the first, backwards
 abbrev pub half_sine : ℕ → ℕ
-half_sine place = if nat_le place 16 then slice_index sines place else slice_index sines (32 - place)
+half_sine place =
+    if nat_le place 16 then slice_index sines place else slice_index sines (32 - place)
 
 -- a wave is above 0 for the first 32 positions, and as far below for the others
 abbrev pub mirrored : ℕ → ℕ → ℤ

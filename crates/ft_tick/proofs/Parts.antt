@@ -14,23 +14,31 @@ use Rattle.ft_tick.proofs.Sitting.{seated_in_range, empty_in_range, none_taken, 
 use Rattle.ft_tick.proofs.Gathering.{gathered_in_range, gathered_kept, gathered_sounds, home_of, emptied_memory, emptied_voice}
 
 -- the channels with their voices are in range
-pub seats_in_range : (used : ℕ) (time : Control) (channels seats : List Channel) (voices : List Voice) → IsBetweenTicks used time channels voices → used ≤ length channels
+pub seats_in_range : (used : ℕ) (time : Control) (channels seats : List Channel) (voices : List Voice)
+    → IsBetweenTicks used time channels voices → used ≤ length channels
     → seats ≡ seated (take used channels) voices → length seats ≡ used → IsInRange time seats
 seats_in_range used time channels seats voices p le sits many = record {
   control = subst (λ (n : ℕ). IsControlInRange n time) (sym many) p.control;
-  channels = subst AreInRange (sym sits) (seated_in_range 0 used (take used channels) voices p.ascend (omega (arith, length-take used channels)) p.voices
+  channels = subst AreInRange (sym sits) (seated_in_range 0 used (take used channels) voices p.ascend
+      (omega (arith, length-take used channels)) p.voices
       (empty_in_range channels used le p.channels p.seats));
 }
 
 -- no channel has a voice before they sit down
-taken_empty : (used : ℕ) (time : Control) (channels : List Channel) (voices : List Voice) → IsBetweenTicks used time channels voices
+taken_empty : (used : ℕ) (time : Control) (channels : List Channel) (voices : List Voice)
+    → IsBetweenTicks used time channels voices
     → (c : ℕ) → c < length (take used channels) → (get_or (take used channels) c blank_channel).voice ≡ None
-taken_empty used time channels voices p c lt = none_taken channels used p.seats c (omega (arith, length-take used channels))
+taken_empty used time channels voices p c lt =
+    none_taken channels used p.seats c (omega (arith, length-take used channels))
 
 -- what the seated channels keep, the voices keep
-pub parts_keep : (before after : ℕ → SampleHead → Type 0) (held held_after : List Bool) (used : ℕ) (time next : Control) (channels seats made : List Channel) (voices out : List Voice)
-    → IsBetweenTicks used time channels voices → used ≤ length channels → seats ≡ seated (take used channels) voices → length seats ≡ used → used ≡ length held
-    → KeepsForAll before after held held_after seats made → IsInRange next made → out ≡ gathered made → KeepsVoices before after held held_after voices out
+pub parts_keep :
+    (before after : ℕ → SampleHead → Type 0) (held held_after : List Bool) (used : ℕ) (time next : Control)
+        (channels seats made : List Channel) (voices out : List Voice)
+    → IsBetweenTicks used time channels voices → used ≤ length channels → seats ≡ seated (take used channels) voices
+        → length seats ≡ used → used ≡ length held
+    → KeepsForAll before after held held_after seats made → IsInRange next made → out ≡ gathered made
+        → KeepsVoices before after held held_after voices out
 parts_keep before after held held_after used time next channels seats made voices out p le sits many wide k range o =
     let empty = taken_empty used time channels voices p in
     let as_many : length made ≡ used = k.many ∙ many in
@@ -51,7 +59,8 @@ parts_keep before after held held_after used time next channels seats made voice
     }
 
 -- the state after the voices are gathered
-pub parts_range : (used : ℕ) (time : Control) (made left rest : List Channel) (out : List Voice) → used ≤ 32 → used ≡ length made → IsInRange time made
+pub parts_range : (used : ℕ) (time : Control) (made left rest : List Channel) (out : List Voice) → used ≤ 32
+    → used ≡ length made → IsInRange time made
     → left ≡ map emptied made → out ≡ gathered made → IsBetweenTicks used time (left ++ rest) out
 parts_range used time made left rest out few many range l o = record {
   few = few;
@@ -63,6 +72,8 @@ parts_range used time made left rest out few many range l o = record {
   voices = rw o (gathered_in_range made range.channels);
 }
 
-pub parts_back : (used : ℕ) (time : Control) (made left rest : List Channel) (out : List Voice) → used ≡ length made → IsInRange time made
+pub parts_back : (used : ℕ) (time : Control) (made left rest : List Channel) (out : List Voice) → used ≡ length made
+    → IsInRange time made
     → left ≡ map emptied made → out ≡ gathered made → seated (take used (left ++ rest)) out ≡ made
-parts_back used time made left rest out many range l o = rw (l, o) (gathered_state made rest used many (home_of made range.channels))
+parts_back used time made left rest out many range l o =
+    rw (l, o) (gathered_state made rest used many (home_of made range.channels))

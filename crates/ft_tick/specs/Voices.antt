@@ -5,4 +5,5 @@ use Rattle.ft_replay.specs.State.{blank_channel}
 
 abbrev pub HaveSameVoices : List Channel → List Channel → Type 0
 HaveSameVoices channels others =
-    (c : ℕ) → c < length channels → (get_or others c blank_channel).voice ≡ (get_or channels c blank_channel).voice
+    (c : ℕ) → c < length channels
+        → (get_or others c blank_channel).voice ≡ (get_or channels c blank_channel).voice

@@ -18,7 +18,8 @@ pub refilled : {X : Type 0} (xs ws : List X) → length ws ≡ length xs → ref
 refilled xs ws e = rw (dropped xs ws e, sym e) (whole ws)
 
 -- one of them is written
-pub written : {X : Type 0} (xs ys : List X) (c d : ℕ) (x : X) → ys ≡ xs → c ≡ d → refill (length xs) xs (set ys c x) ≡ set xs d x
+pub written : {X : Type 0} (xs ys : List X) (c d : ℕ) (x : X) → ys ≡ xs → c ≡ d
+    → refill (length xs) xs (set ys c x) ≡ set xs d x
 written xs ys c d x e f = rw (e, f) (refilled xs (set xs d x) (length-set xs d x))
 
 same_at : {X : Type 0} (xs : List X) (i : ℕ) (a b : X) → i < length xs → get_or xs i a ≡ get_or xs i b
@@ -27,5 +28,6 @@ same_at (x ∷ xs) zero a b lt = refl
 same_at (x ∷ xs) (suc i) a b lt = same_at xs i a b (omega (arith, lt))
 
 -- one of them is read
-pub found : {X : Type 0} (xs ys : List X) (c d : ℕ) (a b : X) → ys ≡ xs → c ≡ d → d < length xs → get_or ys c a ≡ get_or xs d b
+pub found : {X : Type 0} (xs ys : List X) (c d : ℕ) (a b : X) → ys ≡ xs → c ≡ d → d < length xs
+    → get_or ys c a ≡ get_or xs d b
 found xs ys c d a b e f lt = rw (e, f) (same_at xs d a b lt)

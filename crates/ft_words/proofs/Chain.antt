@@ -15,11 +15,16 @@ pub app_added : (old new : Command) (a : Arg) (p : App) (r : Rule) → AddsArg o
     → a.global ≡ false → app_of old ≡ p → rule_of a ≡ r → app_of new ≡ with_rule p r
 app_added old new a p r added local was is = added.shape local ∙ ap₂ with_rule was is
 
-pub copy_built : (p : App) → p ≡ with_rule (with_rule (bare_app (codes "copy")) (file_rule (codes "song"))) (file_rule (codes "out")) → p ≡ copy_app
+pub copy_built : (p : App)
+    → p ≡ with_rule (with_rule (bare_app (codes "copy")) (file_rule (codes "song"))) (file_rule (codes "out"))
+    → p ≡ copy_app
 unfolding copy_app
 copy_built p e = e
 
-pub gen_built : (p : App) → p ≡ with_rule (with_rule (bare_app (codes "gen")) (number_rule (codes "number") (numbers_within 0 4294967295))) (file_rule (codes "out")) → p ≡ gen_app
+pub gen_built : (p : App)
+    → p
+        ≡ with_rule (with_rule (bare_app (codes "gen")) (number_rule (codes "number") (numbers_within 0 4294967295)))
+            (file_rule (codes "out")) → p ≡ gen_app
 unfolding gen_app
 gen_built p e = e
 

@@ -57,7 +57,8 @@ none_is : {X : Type 0} (o : Option X) → not (is_some o) ≡ true → o ≡ Non
 none_is None e = refl
 none_is (Some x) e = absurd (true≢false (sym e))
 
-all_at : (t : Rule → Bool) (xs : List Arg) → list_all t (map rule_of xs) ≡ true → (k : ℕ) (d : Arg) → k < length xs → t (rule_of (slice_index_or xs k d)) ≡ true
+all_at : (t : Rule → Bool) (xs : List Arg) → list_all t (map rule_of xs) ≡ true → (k : ℕ) (d : Arg) → k < length xs
+    → t (rule_of (slice_index_or xs k d)) ≡ true
 all_at t [] e k d lt = absurd (omega arith)
 all_at t (x ∷ xs) e zero d lt = (both _ _ e).0
 all_at t (x ∷ xs) e (suc k) d lt = all_at t xs (both _ _ e).1 k d (omega arith)
@@ -88,7 +89,9 @@ plain_of c e =
     let e1 = both _ _ e in
     let e2 = both _ _ e1.1 in
     let e3 = both _ _ e2.1 in (
-      λ k d lt. plain_arg (slice_index_or (args_of c) k d) (all_at (λ r. r.is_simple) (args_of c) e3.0 k d lt) (all_at (λ r. r.is_free) (args_of c) e3.1 k d lt),
+      λ k d lt.
+          plain_arg (slice_index_or (args_of c) k d) (all_at (λ r. r.is_simple) (args_of c) e3.0 k d lt)
+          (all_at (λ r. r.is_free) (args_of c) e3.1 k d lt),
       empty_is _ (both _ _ e1.0).0,
     )
 
@@ -128,7 +131,8 @@ alone_at (x ∷ xs) (suc k) id e (suc j) d lt hit = ap suc (alone_at xs k id (bo
 
 -- ---- entries
 
-has_in : (xs : List Entry) (id : Text) → HasIn xs id → is_some (option_map (λ e. e.1) (find (λ e. bytes_eq e.0.now id) xs)) ≡ true
+has_in : (xs : List Entry) (id : Text) → HasIn xs id
+    → is_some (option_map (λ e. e.1) (find (λ e. bytes_eq e.0.now id) xs)) ≡ true
 has_in [] id h = absurd (omega (arith, h.1))
 has_in (x ∷ xs) id h = go (bytes_eq x.0.now id) refl h (λ rest. has_in xs id rest)
   where
@@ -139,7 +143,8 @@ has_in (x ∷ xs) id h = go (bytes_eq x.0.now id) refl h (λ rest. has_in xs id 
     go false e (zero, lt, at) rec = absurd (true≢false (sym (at x) ∙ e))
     go false e (suc i, lt, at) rec = rw e (rec (i, omega arith, at))
 
-head_of : (P : Bor Text → Type 0) (vs : List (Bor Text)) → 0 < length vs → All P vs → (v : Bor Text) × (slice_get vs 0 ≡ Some v) × P v
+head_of : (P : Bor Text → Type 0) (vs : List (Bor Text)) → 0 < length vs → All P vs
+    → (v : Bor Text) × (slice_get vs 0 ≡ Some v) × P v
 head_of P [] lt h = absurd (omega arith)
 head_of P (v ∷ vs) lt h = (v, refl, h 0 v (omega arith))
 
@@ -165,11 +170,13 @@ module _ (c : Command) (m : ArgMatches) (p : IsParsedFrom c m) (a : App) (is : a
   not_auto (inl e) = true≢false (sym (subst (λ t. is_own t ≡ true) (sym id_is ∙ e) own))
   not_auto (inr e) = true≢false (sym (subst (λ t. is_own t ≡ true) (sym id_is ∙ e) own))
 
-  single : (j : ℕ) (e : Arg) → j < length (args_of c) → bytes_eq (slice_index_or (args_of c) j e).id.now mine.id.now ≡ true → j ≡ k
+  single : (j : ℕ) (e : Arg) → j < length (args_of c)
+      → bytes_eq (slice_index_or (args_of c) j e).id.now mine.id.now ≡ true → j ≡ k
   single j e lt hit = alone_at (args_of c) k r.id (ap (λ (b : App). only_at k r.id b.top.rules) is ∙ alone) j e lt
       (subst (λ t. bytes_eq (slice_index_or (args_of c) j e).id.now t ≡ true) id_is hit)
 
-  same_rules : (j : ℕ) (y : Arg) → j < length (args_of p.built) → slice_index_or (args_of p.built) j y ≡ y → bytes_eq y.id.now mine.id.now ≡ true → SameRules mine y
+  same_rules : (j : ℕ) (y : Arg) → j < length (args_of p.built) → slice_index_or (args_of p.built) j y ≡ y
+      → bytes_eq y.id.now mine.id.now ≡ true → SameRules mine y
   same_rules = same_rules_by_id c m p k here.0 here.1 single not_auto
 
   is_set : mine.action ≡ Some Set
@@ -186,7 +193,8 @@ module _ (c : Command) (m : ArgMatches) (p : IsParsedFrom c m) (a : App) (is : a
 
   one_or_more : 1 ≤ least_values mine
   one_or_more =
-      let e : least_values mine ≡ 1 = ap (λ o. (unwrap_or_range o).start_inclusive) (ap (λ (s : Rule). s.range) here.2 ∙ one) in
+      let e : least_values mine ≡ 1 =
+          ap (λ o. (unwrap_or_range o).start_inclusive) (ap (λ (s : Rule). s.range) here.2 ∙ one) in
       omega arith
 
   wants : r.required ≡ false → WantsDefault mine
@@ -198,11 +206,15 @@ module _ (c : Command) (m : ArgMatches) (p : IsParsedFrom c m) (a : App) (is : a
   present = go r.required refl
     where
       go : (b : Bool) → r.required ≡ b → is_some (matched_of (found_of m) mine.id.now) ≡ true
-      go true e = present_has_entry (found_of m) mine.id.now (required_present c m p (plain_of c sound_c) (no_globals c sound_c) (negates_nothing c sound_c) k here.0 here.1 (ap (λ (s : Rule). s.required) here.2 ∙ e))
-      go false e = has_in (found_of m).entries.items mine.id.now (default_present c m p (no_globals c sound_c) k here.0 here.1 (wants e))
+      go true e = present_has_entry (found_of m) mine.id.now
+          (required_present c m p (plain_of c sound_c) (no_globals c sound_c) (negates_nothing c sound_c) k here.0
+              here.1 (ap (λ (s : Rule). s.required) here.2 ∙ e))
+      go false e = has_in (found_of m).entries.items mine.id.now
+          (default_present c m p (no_globals c sound_c) k here.0 here.1 (wants e))
 
   abbrev Given : MatchedArg → Type 0
-  Given x = (0 < length x.vals.items) × All (λ v. PassesArg p.built mine.id.now v.now) x.vals.items × HasReading p.built mine.id.now x.reading
+  Given x = (0 < length x.vals.items) × All (λ v. PassesArg p.built mine.id.now v.now) x.vals.items
+      × HasReading p.built mine.id.now x.reading
 
   no_groups : groups_of p.built ≡ []
   no_groups = (p.from.plain (plain_of c sound_c)).1
@@ -246,11 +258,14 @@ module _ (c : Command) (m : ArgMatches) (p : IsParsedFrom c m) (a : App) (is : a
   entry : (x : MatchedArg) × (matched_of (found_of m) mine.id.now ≡ Some x) × Given x
   entry = go (matched_of (found_of m) mine.id.now) refl present
     where
-      go : (o : Option MatchedArg) → matched_of (found_of m) mine.id.now ≡ o → is_some (matched_of (found_of m) mine.id.now) ≡ true
+      go : (o : Option MatchedArg) → matched_of (found_of m) mine.id.now ≡ o
+          → is_some (matched_of (found_of m) mine.id.now) ≡ true
           → (x : MatchedArg) × (matched_of (found_of m) mine.id.now ≡ Some x) × Given x
       go None e some = absurd (true≢false (sym some ∙ ap is_some e))
       go (Some x) e some =
-          let got = entry_by_id (EntryPasses p.built) (found_of m).entries.items mine.id.now x (p.parsed (p.from.globals ∙ no_globals c sound_c)).values e in
+          let got =
+              entry_by_id (EntryPasses p.built) (found_of m).entries.items mine.id.now x
+              (p.parsed (p.from.globals ∙ no_globals c sound_c)).values e in
           (x, e, subst Given got.1 (given_by got.0 ((bytes_eq-Decides got.0.0.now mine.id.now).0 got.2) got.3))
 
   -- the argument has a first value
@@ -260,7 +275,8 @@ module _ (c : Command) (m : ArgMatches) (p : IsParsedFrom c m) (a : App) (is : a
       (first.0.now, subst (λ t. first_value (found_of m) t ≡ Some first.0.now) id_is (rw (entry.1, first.1) refl))
 
   -- and its parser took that value
-  pub value_passes : (q : ValueParser) → r.parser ≡ Some q → (t : Text) × (one_text (found_of m) r.id ≡ Some (read_as (reading_of q) t)) × Accepts r.ignore_case q t
+  pub value_passes : (q : ValueParser) → r.parser ≡ Some q
+      → (t : Text) × (one_text (found_of m) r.id ≡ Some (read_as (reading_of q) t)) × Accepts r.ignore_case q t
   value_passes q parser =
       let first = head_of (λ v. PassesArg p.built mine.id.now v.now) entry.0.vals.items entry.2.0 entry.2.1 in
       let has : mine.value_parser ≡ Some q = ap (λ (s : Rule). s.parser) here.2 ∙ parser in
@@ -272,6 +288,8 @@ module _ (c : Command) (m : ArgMatches) (p : IsParsedFrom c m) (a : App) (is : a
       let z = same_rules read.0 read.1 read.2 read.3 read.4.0 in
       let how : entry.0.reading ≡ reading_of q = sym read.4.1 ∙ ap reading_of (ap parser_of_value (z.parser q has)) in (
         first.0.now,
-        subst (λ t. one_text (found_of m) t ≡ Some (read_as (reading_of q) first.0.now)) id_is (rw (entry.1, first.1, how) refl),
-        subst (λ (b : Bool). Accepts b q first.0.now) case_is (subst (λ (w : ValueParser). Accepts taken.1.ignore_case w first.0.now) is_q taken.4.1),
+        subst (λ t. one_text (found_of m) t ≡ Some (read_as (reading_of q) first.0.now)) id_is
+            (rw (entry.1, first.1, how) refl),
+        subst (λ (b : Bool). Accepts b q first.0.now) case_is
+            (subst (λ (w : ValueParser). Accepts taken.1.ignore_case w first.0.now) is_q taken.4.1),
       )

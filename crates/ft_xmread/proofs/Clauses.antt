@@ -27,11 +27,13 @@ same_fault a b e = cc
 not_both : (a : Module) (f : XmFault) → read_as a ≡ fails_as f → ⊥
 not_both a f e = absurd cc
 
-pub found : (file : List ℕ) (r : Result Module XmFault) → AreBytes file → Answers r (song_in file) → IfOk r (Spells file)
+pub found : (file : List ℕ) (r : Result Module XmFault) → AreBytes file → Answers r (song_in file)
+    → IfOk r (Spells file)
 found file (Ok song) bytes a = gives_song file song bytes a
 found file (Err f) bytes a = tt
 
-pub valid : (file : List ℕ) (r : Result Module XmFault) → AreBytes file → Answers r (song_in file) → ((bytes : List ℕ) (song : Module) → Spells bytes song → IsValid song) → IfOk r IsValid
+pub valid : (file : List ℕ) (r : Result Module XmFault) → AreBytes file → Answers r (song_in file)
+    → ((bytes : List ℕ) (song : Module) → Spells bytes song → IsValid song) → IfOk r IsValid
 valid file (Ok song) bytes a law = law file song (gives_song file song bytes a)
 valid file (Err f) bytes a law = tt
 
@@ -50,33 +52,38 @@ given_fault file (faults.Stereo instrument sample) a = inr a
 given_fault file (faults.TooLong instrument sample frames) a = inr a
 given_fault file faults.NoMemory a = inl refl
 
-pub only : (file : List ℕ) (r : Result Module XmFault) → Answers r (song_in file) → (song : Module) → Spells file song → IsThisSong r song
+pub only : (file : List ℕ) (r : Result Module XmFault) → Answers r (song_in file) → (song : Module) → Spells file song
+    → IsThisSong r song
 only file (Ok read) a song s = same_song read song (sym a ∙ song_gives file song s)
 only file (Err f) a song s = elim (given_fault file f a) [
   | inl wanting ↦ wanting
   | inr given ↦ absurd (not_both song f (sym (song_gives file song s) ∙ given))
 ]
 
-pub canonical : (file : List ℕ) (r : Result Module XmFault) → Answers r (song_in file) → (song : Module) → file ≡ canon song → Spells (canon song) song → IsThisSong r song
+pub canonical : (file : List ℕ) (r : Result Module XmFault) → Answers r (song_in file) → (song : Module)
+    → file ≡ canon song → Spells (canon song) song → IsThisSong r song
 canonical file r a song e s = only file r a song (subst (λ (bytes : List ℕ). Spells bytes song) (sym e) s)
 
 pub fault : (file : List ℕ) (r : Result Module XmFault) → Answers r (song_in file) → IfErr r (IsFaultOf file)
 fault file (Ok read) a = tt
 fault file (Err f) a = given_fault file f a
 
-pub refused : (file : List ℕ) (r : Result Module XmFault) → Answers r (song_in file) → (f : XmFault) → HasFault file f → IsRefusedBy r f
+pub refused : (file : List ℕ) (r : Result Module XmFault) → Answers r (song_in file) → (f : XmFault) → HasFault file f
+    → IsRefusedBy r f
 refused file (Ok song) a f h = not_both song f (sym a ∙ h)
 refused file (Err g) a f h = elim (given_fault file g a) [
   | inl wanting ↦ inr wanting
   | inr given ↦ inl (same_fault g f (sym given ∙ h))
 ]
 
-pub is_wrong : (file : List ℕ) (r : Result Module XmFault) (at : ℕ) → Answers r (song_in file) → r ≡ Err (faults.NotXm at) → IsFirstWrong file at
+pub is_wrong : (file : List ℕ) (r : Result Module XmFault) (at : ℕ) → Answers r (song_in file)
+    → r ≡ Err (faults.NotXm at) → IsFirstWrong file at
 is_wrong file r at a e = gives_wrong file at (subst (λ (x : Result Module XmFault). Answers x (song_in file)) e a)
 
 -- ---- each file has one answer
 
-either_step : (file : List ℕ) (r : Result Module XmFault) → AreBytes file → song_in file ≡ r → ((song : Module) × Spells file song) ⊎ ((f : XmFault) × HasFault file f)
+either_step : (file : List ℕ) (r : Result Module XmFault) → AreBytes file → song_in file ≡ r
+    → ((song : Module) × Spells file song) ⊎ ((f : XmFault) × HasFault file f)
 either_step file (Ok song) bytes e = inl (song, gives_song file song bytes e)
 either_step file (Err f) bytes e = inr (f, e)
 

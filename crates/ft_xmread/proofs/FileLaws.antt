@@ -43,14 +43,18 @@ letter_byte x h = letter_step x (nat_eq x 77) refl h
 abbrev with_letter_of : List ℕ → List ℕ
 with_letter_of piece = set IDENTIFICATION 9 (get_or piece 9 0)
 
-byte_step : (piece : List ℕ) (i : ℕ) (b : Bool) → nat_eq i 9 ≡ b → stands piece i ≡ true → get_or piece i 0 ≡ get_or (with_letter_of piece) i 0
-byte_step piece i true e h = subst (λ (k : ℕ). get_or piece k 0 ≡ get_or (with_letter_of piece) k 0) (sym (eq_is i 9 e)) refl
+byte_step : (piece : List ℕ) (i : ℕ) (b : Bool) → nat_eq i 9 ≡ b → stands piece i ≡ true
+    → get_or piece i 0 ≡ get_or (with_letter_of piece) i 0
+byte_step piece i true e h =
+    subst (λ (k : ℕ). get_or piece k 0 ≡ get_or (with_letter_of piece) k 0) (sym (eq_is i 9 e)) refl
 byte_step piece i false e h =
     same_byte (get_or piece i 0) (get_or IDENTIFICATION i 0) i h e
     ∙ sym (get_or-set_other IDENTIFICATION 9 i (get_or piece 9 0) 0 (λ same. absurd (other_place i e same)))
 
 identified : (piece : List ℕ) → length piece ≡ 17 → AllFrom piece 0 17 → piece ≡ identification_with (get_or piece 9 0)
-identified piece len all = ext_get_or 0 piece (with_letter_of piece) len (λ i lt. byte_step piece i (nat_eq i 9) refl (all i (omega arith) (omega arith)))
+identified piece len all =
+    ext_get_or 0 piece (with_letter_of piece) len
+    (λ i lt. byte_step piece i (nat_eq i 9) refl (all i (omega arith) (omega arith)))
 
 unless_ok : (at : ℕ) (o : Option ℕ) (x y : ℕ × Place) → unless_wrong at o x ≡ Ok y → (o ≡ None) × (x ≡ y)
 unless_ok at None x y e = (refl, cc)
@@ -65,28 +69,32 @@ record Passed (file : List ℕ) (letter : ℕ × Place) : Type 0 where
   parts : file ≡ identification_with letter.0 ++ letter.1.left
   bytes : AreBytes letter.1.left
 
-passed_step : (file piece left : List ℕ) (at : ℕ) → file ≡ piece ++ left → length piece ≡ 17 → AllFrom piece 0 17 → AreBytes left → Passed file (get_or piece 9 0, record { at = at; left = left })
+passed_step : (file piece left : List ℕ) (at : ℕ) → file ≡ piece ++ left → length piece ≡ 17 → AllFrom piece 0 17
+    → AreBytes left → Passed file (get_or piece 9 0, record { at = at; left = left })
 passed_step file piece left at e len all bytes = record {
   is = letter_byte (get_or piece 9 0) (all 9 (omega arith) (omega arith));
   parts = e ∙ ap (λ (l : List ℕ). l ++ left) (identified piece len all);
   bytes = bytes;
 }
 
-id_takes : (file : List ℕ) (letter : ℕ × Place) → AreBytes file → identification_at (front_of file) ≡ Ok letter → Passed file letter
+id_takes : (file : List ℕ) (letter : ℕ × Place) → AreBytes file → identification_at (front_of file) ≡ Ok letter
+    → Passed file letter
 unfolding identification_at
 id_takes file letter bytes e =
     let p = front_of file in
     let f = bind_ok (field_at 17 p) _ letter e in
     let t = (field_law 17).takes p f.0 bytes f.1 in
     let u = unless_ok 0 (wrong_from 0 17 f.0.0) (slice_index f.0.0 9, f.0.1) letter f.2 in
-    subst (Passed file) u.1 (passed_step file f.0.0 f.0.1.left f.0.1.at t.parts t.fits.0 (all_are f.0.0 0 17 u.0) t.bytes)
+    subst (Passed file) u.1
+        (passed_step file f.0.0 f.0.1.left f.0.1.at t.parts t.fits.0 (all_are f.0.0 0 17 u.0) t.bytes)
 
 none_wrong : (letter : ℕ) → IsLetter letter → wrong_from 0 17 (identification_with letter) ≡ None
 unfolding wrong_from
 none_wrong letter (inl e) = rw e refl
 none_wrong letter (inr e) = rw e refl
 
-id_again : (letter : ℕ) (rest : List ℕ) → IsLetter letter → identification_at (front_of (identification_with letter ++ rest)) ≡ Ok (letter, record { at = 17; left = rest })
+id_again : (letter : ℕ) (rest : List ℕ) → IsLetter letter
+    → identification_at (front_of (identification_with letter ++ rest)) ≡ Ok (letter, record { at = 17; left = rest })
 unfolding identification_at
 id_again letter rest is = rw (field_again 0 (identification_with letter) rest 17 refl, none_wrong letter is) refl
 
@@ -99,7 +107,8 @@ unless_wrong_is None x at e = absurd cc
 unless_wrong_is (Some k) x at e = let same : 0 + k ≡ at = cc in ap (λ (i : ℕ). Some i) (omega (arith, same))
 
 wrong_step : (file : List ℕ) (at : ℕ) (b : Bool) (x : ℕ × Place) → ltb (length file) 17 ≡ b
-    → cond b (Err (faults.Short 0 17)) (unless_wrong 0 (wrong_from 0 17 (take 17 file)) x) ≡ Err (faults.NotXm at) → IsFirstWrong file at
+    → cond b (Err (faults.Short 0 17)) (unless_wrong 0 (wrong_from 0 17 (take 17 file)) x) ≡ Err (faults.NotXm at)
+        → IsFirstWrong file at
 wrong_step file at true x b e = absurd cc
 wrong_step file at false x b e =
     let f = first_is (take 17 file) 0 17 at (unless_wrong_is (wrong_from 0 17 (take 17 file)) x at e) in
@@ -111,19 +120,25 @@ wrong_step file at false x b e =
       before = λ k lt. sym (stands_in file k (omega arith)) ∙ f.before k (omega arith) lt;
     }
 
-cond_bind : {A B : Type 0} (b : Bool) (d : XmFault) (x : A) (f : A → Result B XmFault) → (cond b (Err d) (Ok x) >>= f) ≡ cond b (Err d) (f x)
+cond_bind : {A B : Type 0} (b : Bool) (d : XmFault) (x : A) (f : A → Result B XmFault)
+    → (cond b (Err d) (Ok x) >>= f) ≡ cond b (Err d) (f x)
 cond_bind true d x f = refl
 cond_bind false d x f = refl
 
 id_is : (file : List ℕ) → identification_at (front_of file)
-    ≡ cond (ltb (length file) 17) (Err (faults.Short 0 17)) (unless_wrong 0 (wrong_from 0 17 (take 17 file)) (slice_index (take 17 file) 9, record { at = 0 + 17; left = drop 17 file }))
+    ≡ cond (ltb (length file) 17) (Err (faults.Short 0 17))
+        (unless_wrong 0 (wrong_from 0 17 (take 17 file))
+            (slice_index (take 17 file) 9, record { at = 0 + 17; left = drop 17 file }))
 unfolding identification_at field_at
-id_is file = cond_bind (ltb (length file) 17) (faults.Short 0 17) (take 17 file, record { at = 0 + 17; left = drop 17 file }) _
+id_is file =
+    cond_bind (ltb (length file) 17) (faults.Short 0 17) (take 17 file, record { at = 0 + 17; left = drop 17 file }) _
 
-pub id_wrong : (file : List ℕ) (at : ℕ) → identification_at (front_of file) ≡ Err (faults.NotXm at) → IsFirstWrong file at
+pub id_wrong : (file : List ℕ) (at : ℕ) → identification_at (front_of file) ≡ Err (faults.NotXm at)
+    → IsFirstWrong file at
 id_wrong file at e = wrong_step file at (ltb (length file) 17) _ refl (sym (id_is file) ∙ e)
 
-pub wrong_id : (file : List ℕ) (at : ℕ) → IsFirstWrong file at → identification_at (front_of file) ≡ Err (faults.NotXm at)
+pub wrong_id : (file : List ℕ) (at : ℕ) → IsFirstWrong file at
+    → identification_at (front_of file) ≡ Err (faults.NotXm at)
 unfolding identification_at field_at
 wrong_id file at w =
     let long : ltb (length file) 17 ≡ false = le-ltb (length file) 17 w.long in
@@ -138,7 +153,8 @@ wrong_id file at w =
 
 -- ---- what a file gives
 
-value_ok : {A B : Type 0} (r : Result (A × B) XmFault) (value : A) → value_of r ≡ Ok value → (x : A × B) × (r ≡ Ok x) × (x.0 ≡ value)
+value_ok : {A B : Type 0} (r : Result (A × B) XmFault) (value : A) → value_of r ≡ Ok value
+    → (x : A × B) × (r ≡ Ok x) × (x.0 ≡ value)
 value_ok (Ok x) value e = (x, refl, cc)
 value_ok (Err f) value e = absurd cc
 
@@ -159,7 +175,12 @@ raw_fits letter x is f = record {
 }
 
 parts_fit : (raw : RawSong) → SongFits raw → PartsFit (parts_of raw)
-parts_fit raw fits = (fits.header, (record { count = fits.patterns_count; each = fits.patterns }, record { count = fits.instruments_count; each = fits.instruments }))
+parts_fit raw fits =
+    (fits.header,
+    (record { count = fits.patterns_count; each = fits.patterns }, record {
+          count = fits.instruments_count;
+          each = fits.instruments;
+        }))
 
 pub gives_song : (file : List ℕ) (song : Module) → AreBytes file → song_in file ≡ Ok song → Spells file song
 unfolding song_in song_text module_of
@@ -172,28 +193,35 @@ gives_song file song bytes e =
       raw = raw_of l.0.0 t.raw;
       surplus = s.0.1.left;
       fits = raw_fits l.0.0 t.raw i.is t.fits;
-      text = i.parts ∙ ap (λ (x : List ℕ). identification_with l.0.0 ++ x) t.parts ∙ sym (append_assoc (identification_with l.0.0) (parts_text t.raw) s.0.1.left);
+      text =
+          i.parts ∙ ap (λ (x : List ℕ). identification_with l.0.0 ++ x) t.parts
+          ∙ sym (append_assoc (identification_with l.0.0) (parts_text t.raw) s.0.1.left);
       means = t.value ∙ s.2;
     }
 
 abbrev song_behind : ℕ × Place → Result (Module × Place) XmFault
 song_behind letter = song_at letter.1
 
-gives_step : (file : List ℕ) (raw : RawSong) (surplus : List ℕ) → SongFits raw → file ≡ identification_with raw.letter ++ (parts_text (parts_of raw) ++ surplus)
+gives_step : (file : List ℕ) (raw : RawSong) (surplus : List ℕ) → SongFits raw
+    → file ≡ identification_with raw.letter ++ (parts_text (parts_of raw) ++ surplus)
     → value_of (identification_at (front_of file) >>= song_behind) ≡ Ok (meaning (parts_of raw))
 gives_step file raw surplus fits e =
     ap (λ (x : List ℕ). value_of (identification_at (front_of x) >>= song_behind)) e
-    ∙ rw (id_again raw.letter (parts_text (parts_of raw) ++ surplus) fits.letter, song_law.again 17 (parts_of raw) surplus (parts_fit raw fits)) refl
+    ∙ rw
+        (id_again raw.letter (parts_text (parts_of raw) ++ surplus) fits.letter, song_law.again 17 (parts_of raw)
+            surplus (parts_fit raw fits)) refl
 
 pub song_gives : (file : List ℕ) (song : Module) → Spells file song → song_in file ≡ Ok song
 unfolding song_in song_text module_of
 song_gives file song s =
-    gives_step file s.raw s.surplus s.fits (s.text ∙ append_assoc (identification_with s.raw.letter) (parts_text (parts_of s.raw)) s.surplus)
+    gives_step file s.raw s.surplus s.fits
+        (s.text ∙ append_assoc (identification_with s.raw.letter) (parts_text (parts_of s.raw)) s.surplus)
     ∙ ap (λ (m : Module). Ok m) s.means
 
 -- ---- the identification's fault
 
-not_xm_step : (r : Result (ℕ × Place) XmFault) (at : ℕ) → value_of (r >>= song_behind) ≡ fails {A = Module} (faults.NotXm at) → r ≡ Err (faults.NotXm at)
+not_xm_step : (r : Result (ℕ × Place) XmFault) (at : ℕ)
+    → value_of (r >>= song_behind) ≡ fails {A = Module} (faults.NotXm at) → r ≡ Err (faults.NotXm at)
 not_xm_step (Ok letter) at e = absurd (value_quiet (song_at letter.1) (faults.NotXm at) (song_quiet letter.1) e)
 not_xm_step (Err d) at e = ap (λ (f : XmFault). Err f) (same_fault {A = Module} d (faults.NotXm at) e)
 

@@ -27,7 +27,9 @@ unfolding titles_at
 titles_alike = alike3 (field_at 20) (number_at 1) (field_at 20) make_titles
 
 titles_law : Lawful titles_at titles_text TitlesFit
-titles_law = alike_law titles_at titles_parts titles_text TitlesFit titles_alike (seen_law _ (λ titles. (titles.name, (titles.mark, titles.tracker))) _ _ _ titles_text TitlesFit
+titles_law =
+    alike_law titles_at titles_parts titles_text TitlesFit titles_alike (seen_law _
+    (λ titles. (titles.name, (titles.mark, titles.tracker))) _ _ _ titles_text TitlesFit
     (pair_law _ _ _ _ _ _ (field_law 20) (pair_law _ _ _ _ _ _ byte_law (field_law 20)))
     (λ x f. (record { name = f.0; mark = f.1.0; tracker = f.1.1 }, refl))
     (λ y g. ((g.name, (g.mark, g.tracker)), refl, refl)))
@@ -65,18 +67,23 @@ abbrev behind_version : ℕ × (ℕ × (ℕ × ℕ)) → List ℕ
 behind_version x = u32 x.0 ++ (u16 x.1.0 ++ (u16 x.1.1.0 ++ u16 x.1.1.1))
 
 abbrev make_sizes : ℕ → ℕ → ℕ → ℕ → ℕ → Sizes
-make_sizes version size length restart channels = record { size = size; length = length; restart = restart; channels = channels }
+make_sizes version size length restart channels =
+    record { size = size; length = length; restart = restart; channels = channels }
 
 abbrev parts_of_sizes : Reading Sizes
-parts_of_sizes = seen (λ x. make_sizes x.0 x.1.0 x.1.1.0 x.1.1.1.0 x.1.1.1.1) (both5 version_at size_at (count_at 256) (number_at 2) channels_at)
+parts_of_sizes =
+    seen (λ x. make_sizes x.0 x.1.0 x.1.1.0 x.1.1.1.0 x.1.1.1.1)
+    (both5 version_at size_at (count_at 256) (number_at 2) channels_at)
 
 sizes_alike : Alike sizes_at parts_of_sizes
 unfolding sizes_at
 sizes_alike = alike5 version_at size_at (count_at 256) (number_at 2) channels_at make_sizes
 
 sizes_law : Lawful sizes_at sizes_text SizesFit
-sizes_law = alike_law sizes_at parts_of_sizes sizes_text SizesFit sizes_alike (seen_law _ sizes_parts _ _ _ sizes_text SizesFit
-    (pair_law _ _ _ _ _ _ version_law (pair_law _ _ _ _ _ _ (checked_law low_size Count (number_at 4) u32 (IsNumber 4) u32_law)
+sizes_law =
+    alike_law sizes_at parts_of_sizes sizes_text SizesFit sizes_alike (seen_law _ sizes_parts _ _ _ sizes_text SizesFit
+    (pair_law _ _ _ _ _ _ version_law (pair_law _ _ _ _ _ _
+        (checked_law low_size Count (number_at 4) u32 (IsNumber 4) u32_law)
     (pair_law _ _ _ _ _ _ (count_law 256) (pair_law _ _ _ _ _ _ u16_law (checked_law bad_channels Count (number_at 2) u16 (IsNumber 2) u16_law)))))
     (λ x f. (
       record {
@@ -96,25 +103,36 @@ sizes_law = alike_law sizes_at parts_of_sizes sizes_text SizesFit sizes_alike (s
     )))
 
 abbrev make_settings : ℕ → ℕ → ℕ → ℕ → ℕ → Settings
-make_settings patterns instruments flags tempo bpm = record { patterns = patterns; instruments = instruments; flags = flags; tempo = tempo; bpm = bpm }
+make_settings patterns instruments flags tempo bpm =
+    record { patterns = patterns; instruments = instruments; flags = flags; tempo = tempo; bpm = bpm }
 
 abbrev settings_parts : Reading Settings
-settings_parts = seen (λ x. make_settings x.0 x.1.0 x.1.1.0 x.1.1.1.0 x.1.1.1.1) (both5 (count_at 256) (count_at 128) (number_at 2) (number_at 2) (number_at 2))
+settings_parts =
+    seen (λ x. make_settings x.0 x.1.0 x.1.1.0 x.1.1.1.0 x.1.1.1.1)
+    (both5 (count_at 256) (count_at 128) (number_at 2) (number_at 2) (number_at 2))
 
 settings_alike : Alike settings_at settings_parts
 unfolding settings_at
 settings_alike = alike5 (count_at 256) (count_at 128) (number_at 2) (number_at 2) (number_at 2) make_settings
 
 settings_law : Lawful settings_at settings_text SettingsFit
-settings_law = alike_law settings_at settings_parts settings_text SettingsFit settings_alike (seen_law _ (λ settings. (settings.patterns, (settings.instruments, (settings.flags, (settings.tempo, settings.bpm))))) _ _ _ settings_text SettingsFit
-    (pair_law _ _ _ _ _ _ (count_law 256) (pair_law _ _ _ _ _ _ (count_law 128) (pair_law _ _ _ _ _ _ u16_law (pair_law _ _ _ _ _ _ u16_law u16_law))))
-    (λ x f. (record { patterns = fits_limit 256 x.0 f.0.1; instruments = fits_limit 128 x.1.0 f.1.0.1; flags = f.1.1.0; tempo = f.1.1.1.0; bpm = f.1.1.1.1 }, refl))
+settings_law =
+    alike_law settings_at settings_parts settings_text SettingsFit settings_alike (seen_law _
+    (λ settings. (settings.patterns, (settings.instruments, (settings.flags, (settings.tempo, settings.bpm))))) _ _ _
+    settings_text SettingsFit
+    (pair_law _ _ _ _ _ _ (count_law 256)
+        (pair_law _ _ _ _ _ _ (count_law 128) (pair_law _ _ _ _ _ _ u16_law (pair_law _ _ _ _ _ _ u16_law u16_law))))
+    (λ x f.
+        (record
+        { patterns = fits_limit 256 x.0 f.0.1; instruments = fits_limit 128 x.1.0 f.1.0.1; flags = f.1.1.0; tempo = f.1.1.1.0; bpm = f.1.1.1.1 },
+        refl))
     (λ y g. (((omega (arith, g.patterns), not_lt 256 y.patterns g.patterns), ((omega (arith, g.instruments), not_lt 128 y.instruments g.instruments), (g.flags, (g.tempo, g.bpm)))), refl, refl)))
 
 -- ---- the whole
 
 abbrev make_header : Titles → Sizes → Settings → List ℕ → RawHeader
-make_header titles sizes settings orders = record { titles = titles; sizes = sizes; settings = settings; orders = orders }
+make_header titles sizes settings orders =
+    record { titles = titles; sizes = sizes; settings = settings; orders = orders }
 
 abbrev behind_sizes : Sizes → Reading (Settings × List ℕ)
 behind_sizes sizes = both2 settings_at (field_at (sizes.size - 20))
@@ -139,9 +157,12 @@ header_alike = next_alike (λ x. make_header x.0 x.1.0 x.1.1.0 x.1.1.1) titles_a
 
 pub header_law : Lawful header_at header_text HeaderFits
 unfolding header_text
-header_law = alike_law header_at header_parts header_text HeaderFits header_alike (seen_law _ (λ raw. (raw.titles, (raw.sizes, (raw.settings, raw.orders)))) _ _ _ _ HeaderFits
+header_law =
+    alike_law header_at header_parts header_text HeaderFits header_alike (seen_law _
+    (λ raw. (raw.titles, (raw.sizes, (raw.settings, raw.orders)))) _ _ _ _ HeaderFits
     (pair_law _ _ _ _ _ _ titles_law
-    (both_law sizes_at behind_sizes sizes_text (λ _ x. settings_text x.0 ++ x.1) SizesFit (λ sizes x. SettingsFit x.0 × IsField (sizes.size - 20) x.1) sizes_law
+    (both_law sizes_at behind_sizes sizes_text (λ _ x. settings_text x.0 ++ x.1) SizesFit
+        (λ sizes x. SettingsFit x.0 × IsField (sizes.size - 20) x.1) sizes_law
     (λ sizes _. pair_law _ _ _ _ _ _ settings_law (field_law (sizes.size - 20)))))
     (λ x f. (record { titles = f.0; sizes = f.1.0; settings = f.1.1.0; orders = f.1.1.1 }, refl))
     (λ y g. ((g.titles, (g.sizes, (g.settings, g.orders))), refl, refl)))

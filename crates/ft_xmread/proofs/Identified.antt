@@ -6,7 +6,8 @@ pub differs : (file : List ℕ) (k : ℕ) → k < 17 → stands file k ≡ false
 unfolding wrong_from
 differs file k lt e = let n : 17 - k ≡ suc (17 - (k + 1)) = omega arith in rw (n, e) refl
 
-pub agrees : (file : List ℕ) (k : ℕ) → k < 17 → stands file k ≡ true → wrong_from k (17 - k) file ≡ wrong_from (k + 1) (17 - (k + 1)) file
+pub agrees : (file : List ℕ) (k : ℕ) → k < 17 → stands file k ≡ true
+    → wrong_from k (17 - k) file ≡ wrong_from (k + 1) (17 - (k + 1)) file
 unfolding wrong_from
 agrees file k lt e =
     let n : 17 - k ≡ suc (17 - (k + 1)) = omega arith in

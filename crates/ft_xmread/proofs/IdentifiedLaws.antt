@@ -19,7 +19,8 @@ some k = Some k
 some_is : (a b : ℕ) → some a ≡ some b → a ≡ b
 some_is a b e = cc
 
-next_from : (file : List ℕ) (k n at : ℕ) → stands file k ≡ true → FirstFrom file (suc k) n at → FirstFrom file k (suc n) at
+next_from : (file : List ℕ) (k n at : ℕ) → stands file k ≡ true → FirstFrom file (suc k) n at
+    → FirstFrom file k (suc n) at
 next_from file k n at e f = record {
   low = omega (arith, f.low);
   high = omega (arith, f.high);
@@ -30,7 +31,9 @@ next_from file k n at e f = record {
   ];
 }
 
-first_step : (file : List ℕ) (k n at : ℕ) (b : Bool) → stands file k ≡ b → cond b (wrong_from (suc k) n file) (some k) ≡ some at → (wrong_from (suc k) n file ≡ some at → FirstFrom file (suc k) n at) → FirstFrom file k (suc n) at
+first_step : (file : List ℕ) (k n at : ℕ) (b : Bool) → stands file k ≡ b
+    → cond b (wrong_from (suc k) n file) (some k) ≡ some at
+    → (wrong_from (suc k) n file ≡ some at → FirstFrom file (suc k) n at) → FirstFrom file k (suc n) at
 first_step file k n at true e h more = next_from file k n at e (more h)
 first_step file k n at false e h more =
     let same : k ≡ at = some_is k at h in
@@ -46,7 +49,8 @@ unfolding wrong_from
 first_is file k zero at h = absurd cc
 first_is file k (suc n) at h = first_step file k n at (stands file k) refl h (first_is file (suc k) n at)
 
-all_step : (file : List ℕ) (k n : ℕ) (b : Bool) → stands file k ≡ b → cond b (wrong_from (suc k) n file) (some k) ≡ None → (wrong_from (suc k) n file ≡ None → AllFrom file (suc k) n) → AllFrom file k (suc n)
+all_step : (file : List ℕ) (k n : ℕ) (b : Bool) → stands file k ≡ b → cond b (wrong_from (suc k) n file) (some k) ≡ None
+    → (wrong_from (suc k) n file ≡ None → AllFrom file (suc k) n) → AllFrom file k (suc n)
 all_step file k n true e h more = λ j le lt. elim (cases_lt k j) [
   | inl above ↦ more h j (omega arith) (omega arith)
   | inr less ↦ let same : k ≡ j = omega arith in subst (λ (i : ℕ). stands file i ≡ true) same e
@@ -69,5 +73,6 @@ is_first file k (suc n) at f =
         wrong = f.wrong;
         before = λ j le lt. f.before j (omega arith) lt;
       }))
-      | inr less ↦ let same : at ≡ k = omega (arith, f.low) in rw (subst (λ (i : ℕ). stands file i ≡ false) same f.wrong) (ap some (sym same))
+      | inr less ↦ let same : at
+          ≡ k = omega (arith, f.low) in rw (subst (λ (i : ℕ). stands file i ≡ false) same f.wrong) (ap some (sym same))
     ]

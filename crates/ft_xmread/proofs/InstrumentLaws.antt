@@ -29,13 +29,16 @@ abbrev low_size : ℕ → Bool
 low_size size = nat_lt size 29
 
 abbrev FieldsFit : Head → Type 0
-FieldsFit head = Passes (IsNumber 4) low_size head.size × (IsField 22 head.name × (IsNumber 1 head.kind × IsCount 16 head.samples))
+FieldsFit head =
+    Passes (IsNumber 4) low_size head.size × (IsField 22 head.name × (IsNumber 1 head.kind × IsCount 16 head.samples))
 
 abbrev make_head : ℕ → List ℕ → ℕ → ℕ → Head
 make_head size name kind samples = record { size = size; name = name; kind = kind; samples = samples }
 
 abbrev head_parts : Reading Head
-head_parts = seen (λ x. make_head x.0 x.1.0 x.1.1.0 x.1.1.1) (both4 (checked low_size Count (number_at 4)) (field_at 22) (number_at 1) (count_at 16))
+head_parts =
+    seen (λ x. make_head x.0 x.1.0 x.1.1.0 x.1.1.1)
+    (both4 (checked low_size Count (number_at 4)) (field_at 22) (number_at 1) (count_at 16))
 
 head_alike : Alike head_at head_parts
 unfolding head_at
@@ -87,12 +90,16 @@ short_at head = seen (λ (_ : List ℕ). instrument_with head NO_EXTRA []) (fiel
 abbrev short_of : List ℕ → RawRest
 short_of skipped = record { extra = NO_EXTRA; skipped = skipped; samples = [] }
 
-short_means : (head : Head) (extra : Extra) (samples : List RawSample) → extra ≡ NO_EXTRA → samples ≡ [] → instrument_with head extra (map mean_of samples) ≡ instrument_with head NO_EXTRA []
+short_means : (head : Head) (extra : Extra) (samples : List RawSample) → extra ≡ NO_EXTRA → samples ≡ []
+    → instrument_with head extra (map mean_of samples) ≡ instrument_with head NO_EXTRA []
 short_means head extra samples e f = rw (e, f) refl
 
 short_law : (head : Head) → Spelled (short_at head) (rest_text true) (ShortFits head.size) (rest_mean head)
-short_law head = recast short_of (λ rest. rest.skipped) (short_at head) (λ l. l) (IsField (head.size - 29)) (λ _. instrument_with head NO_EXTRA []) (rest_text true) (ShortFits head.size) (rest_mean head)
-    (seen_spelled (λ (_ : List ℕ). instrument_with head NO_EXTRA []) (field_at (head.size - 29)) (λ l. l) (IsField (head.size - 29)) same
+short_law head =
+    recast short_of (λ rest. rest.skipped) (short_at head) (λ l. l) (IsField (head.size - 29))
+    (λ _. instrument_with head NO_EXTRA []) (rest_text true) (ShortFits head.size) (rest_mean head)
+    (seen_spelled (λ (_ : List ℕ). instrument_with head NO_EXTRA []) (field_at (head.size - 29)) (λ l. l)
+        (IsField (head.size - 29)) same
     (lawful_spelled (field_at (head.size - 29)) (λ l. l) (IsField (head.size - 29)) (field_law (head.size - 29))))
     (λ x f. (record { extra = refl; skipped = f; samples = refl }, refl, refl))
     (λ y g. (g.skipped, refl, short_means head y.extra y.samples g.extra g.samples))
@@ -114,8 +121,10 @@ parts_at number head = both (in_piece (head.size - 29) extra_at) (λ _. headers_
 
 parts_law : (number : ℕ) (head : Head) → Spelled (parts_at number head) long_text (PartsFit head) long_mean
 parts_law number head = pair_spelled (in_piece (head.size - 29) extra_at) (headers_and_samples_at number head.samples)
-    (λ (x : Extra × List ℕ). extra_text x.0 ++ x.1) samples_text (FitsWithin (head.size - 29) extra_text ExtraFits) (AllFit head.samples RawSampleFits) (λ x. (x.0, x.1)) (map mean_of)
-    (within_spelled (head.size - 29) extra_at extra_text ExtraFits same (lawful_spelled extra_at extra_text ExtraFits extra_law))
+    (λ (x : Extra × List ℕ). extra_text x.0 ++ x.1) samples_text (FitsWithin (head.size - 29) extra_text ExtraFits)
+        (AllFit head.samples RawSampleFits) (λ x. (x.0, x.1)) (map mean_of)
+    (within_spelled (head.size - 29) extra_at extra_text ExtraFits same
+        (lawful_spelled extra_at extra_text ExtraFits extra_law))
     (samples_of_law number head.samples)
 
 abbrev long_from : Head → (Extra × List ℕ) × List Sample → Instrument
@@ -127,8 +136,12 @@ long_of x = record { extra = x.0.0; skipped = x.0.1; samples = x.1 }
 abbrev long_parts : RawRest → Long
 long_parts rest = ((rest.extra, rest.skipped), rest.samples)
 
-long_law : (number : ℕ) (head : Head) → Spelled (seen (long_from head) (parts_at number head)) (rest_text false) (LongFits head.size head.samples) (rest_mean head)
-long_law number head = recast long_of long_parts (seen (long_from head) (parts_at number head)) long_text (PartsFit head) (λ x. long_from head (long_mean x)) (rest_text false) (LongFits head.size head.samples) (rest_mean head)
+long_law : (number : ℕ) (head : Head)
+    → Spelled (seen (long_from head) (parts_at number head)) (rest_text false) (LongFits head.size head.samples)
+        (rest_mean head)
+long_law number head =
+    recast long_of long_parts (seen (long_from head) (parts_at number head)) long_text (PartsFit head)
+    (λ x. long_from head (long_mean x)) (rest_text false) (LongFits head.size head.samples) (rest_mean head)
     (seen_spelled (long_from head) (parts_at number head) long_text (PartsFit head) long_mean (parts_law number head))
     (λ x f. (record { extra = f.0; samples = f.1 }, refl, refl))
     (λ y g. ((g.extra, g.samples), refl, refl))
@@ -139,23 +152,38 @@ rest_if none number head p = cond none (short_rest_at head p) (long_rest_at numb
 short_alike : (head : Head) → Alike (short_rest_at head) (short_at head)
 short_alike head p = refl
 
-long_alike : (number : ℕ) (head : Head) → Alike (long_rest_at number head) (seen (long_from head) (parts_at number head))
-long_alike number head = alike2 (in_piece (head.size - 29) extra_at) (headers_and_samples_at number head.samples) (λ extra samples. instrument_with head extra.0 samples)
+long_alike : (number : ℕ) (head : Head)
+    → Alike (long_rest_at number head) (seen (long_from head) (parts_at number head))
+long_alike number head =
+    alike2 (in_piece (head.size - 29) extra_at) (headers_and_samples_at number head.samples)
+    (λ extra samples. instrument_with head extra.0 samples)
 
 short_rest_law : (head : Head) → Spelled (short_rest_at head) (rest_text true) (ShortFits head.size) (rest_mean head)
-short_rest_law head = alike_spelled (short_rest_at head) (short_at head) (rest_text true) (ShortFits head.size) (rest_mean head) (short_alike head) (short_law head)
+short_rest_law head =
+    alike_spelled (short_rest_at head) (short_at head) (rest_text true) (ShortFits head.size) (rest_mean head)
+    (short_alike head) (short_law head)
 
-long_rest_law : (number : ℕ) (head : Head) → Spelled (long_rest_at number head) (rest_text false) (LongFits head.size head.samples) (rest_mean head)
-long_rest_law number head = alike_spelled (long_rest_at number head) (seen (long_from head) (parts_at number head)) (rest_text false) (LongFits head.size head.samples) (rest_mean head) (long_alike number head) (long_law number head)
+long_rest_law : (number : ℕ) (head : Head)
+    → Spelled (long_rest_at number head) (rest_text false) (LongFits head.size head.samples) (rest_mean head)
+long_rest_law number head =
+    alike_spelled (long_rest_at number head) (seen (long_from head) (parts_at number head)) (rest_text false)
+    (LongFits head.size head.samples) (rest_mean head) (long_alike number head) (long_law number head)
 
-rest_if_law : (none : Bool) (number : ℕ) (head : Head) → Spelled (rest_if none number head) (rest_text none) (RestFits none head) (rest_mean head)
+rest_if_law : (none : Bool) (number : ℕ) (head : Head)
+    → Spelled (rest_if none number head) (rest_text none) (RestFits none head) (rest_mean head)
 rest_if_law true number head = record {
   again = λ at raw rest fits. (short_rest_law head).again at raw rest fits;
-  takes = λ p x bytes e. let t = (short_rest_law head).takes p x bytes e in record { raw = t.raw; fits = t.fits; parts = t.parts; value = t.value; bytes = t.bytes };
+  takes =
+      λ p x bytes e.
+      let t = (short_rest_law head).takes p x bytes e in
+      record { raw = t.raw; fits = t.fits; parts = t.parts; value = t.value; bytes = t.bytes };
 }
 rest_if_law false number head = record {
   again = λ at raw rest fits. (long_rest_law number head).again at raw rest fits;
-  takes = λ p x bytes e. let t = (long_rest_law number head).takes p x bytes e in record { raw = t.raw; fits = t.fits; parts = t.parts; value = t.value; bytes = t.bytes };
+  takes =
+      λ p x bytes e.
+      let t = (long_rest_law number head).takes p x bytes e in
+      record { raw = t.raw; fits = t.fits; parts = t.parts; value = t.value; bytes = t.bytes };
 }
 
 -- ---- the whole
@@ -173,7 +201,9 @@ abbrev whole_mean : Whole → Head × Instrument
 whole_mean x = (x.0, rest_mean x.0 x.1)
 
 whole_law : (number : ℕ) → Spelled (both sized_head_at (rest_at number)) whole_text WholeFits whole_mean
-whole_law number = both_spelled sized_head_at (rest_at number) head_text (λ head. rest_text (nat_eq head.samples 0)) HeadFits (λ head. RestFits (nat_eq head.samples 0) head) same rest_mean
+whole_law number =
+    both_spelled sized_head_at (rest_at number) head_text (λ head. rest_text (nat_eq head.samples 0)) HeadFits
+    (λ head. RestFits (nat_eq head.samples 0) head) same rest_mean
     (lawful_spelled sized_head_at head_text HeadFits head_law)
     (λ head _. rest_if_law (nat_eq head.samples 0) number head)
 
@@ -183,13 +213,20 @@ raw_of x = record { head = x.0; rest = x.1 }
 abbrev whole_of : RawInstrument → Whole
 whole_of raw = (raw.head, raw.rest)
 
-instrument_alike : (number : ℕ) → Alike (instrument_spelled_at number) (seen (λ (x : Head × Instrument). x.1) (both sized_head_at (rest_at number)))
+instrument_alike : (number : ℕ)
+    → Alike (instrument_spelled_at number) (seen (λ (x : Head × Instrument). x.1) (both sized_head_at (rest_at number)))
 unfolding instrument_spelled_at
-instrument_alike number = next_alike (λ (x : Head × Instrument). x.1) sized_head_at (rest_at number) (rest_at number) (λ head. seen_same (rest_at number head))
+instrument_alike number =
+    next_alike (λ (x : Head × Instrument). x.1) sized_head_at (rest_at number) (rest_at number)
+    (λ head. seen_same (rest_at number head))
 
-pub instrument_law : (number : ℕ) → Spelled (instrument_spelled_at number) instrument_text RawInstrumentFits instrument_of
+pub instrument_law : (number : ℕ)
+    → Spelled (instrument_spelled_at number) instrument_text RawInstrumentFits instrument_of
 unfolding instrument_text
-instrument_law number = alike_spelled (instrument_spelled_at number) _ _ RawInstrumentFits instrument_of (instrument_alike number) (recast raw_of whole_of _ whole_text WholeFits (λ x. (whole_mean x).1) _ RawInstrumentFits instrument_of
-    (seen_spelled (λ (x : Head × Instrument). x.1) (both sized_head_at (rest_at number)) whole_text WholeFits whole_mean (whole_law number))
+instrument_law number =
+    alike_spelled (instrument_spelled_at number) _ _ RawInstrumentFits instrument_of (instrument_alike number) (recast
+    raw_of whole_of _ whole_text WholeFits (λ x. (whole_mean x).1) _ RawInstrumentFits instrument_of
+    (seen_spelled (λ (x : Head × Instrument). x.1) (both sized_head_at (rest_at number)) whole_text WholeFits whole_mean
+        (whole_law number))
     (λ x f. (record { head = f.0; rest = f.1 }, refl, refl))
     (λ y g. ((g.head, g.rest), refl, refl)))

@@ -33,16 +33,19 @@ pub record Takes {A : Type 0} (text : A → List ℕ) (Fits : A → Type 0) (p :
   pub bytes : AreBytes x.1.left
 
 pub record Lawful {A : Type 0} (one : Reading A) (text : A → List ℕ) (Fits : A → Type 0) : Type 0 where
-  pub again : (at : ℕ) (x : A) (rest : List ℕ) → Fits x → one (record { at = at; left = text x ++ rest }) ≡ Ok (x, record { at = at + length (text x); left = rest })
+  pub again : (at : ℕ) (x : A) (rest : List ℕ) → Fits x
+      → one (record { at = at; left = text x ++ rest }) ≡ Ok (x, record { at = at + length (text x); left = rest })
   pub takes : (p : Place) (x : A × Place) → AreBytes p.left → one p ≡ Ok x → Takes text Fits p x
 
 -- ---- tools
 
-pub bind_ok : {A B : Type 0} (r : Result A XmFault) (f : A → Result B XmFault) (y : B) → (r >>= f) ≡ Ok y → (x : A) × (r ≡ Ok x) × (f x ≡ Ok y)
+pub bind_ok : {A B : Type 0} (r : Result A XmFault) (f : A → Result B XmFault) (y : B) → (r >>= f) ≡ Ok y
+    → (x : A) × (r ≡ Ok x) × (f x ≡ Ok y)
 bind_ok (Ok x) f y e = (x, refl, e)
 bind_ok (Err d) f y e = absurd cc
 
-pub passed : {A : Type 0} (b : Bool) (d : XmFault) (r : Result A XmFault) (y : A) → cond b (Err d) r ≡ Ok y → (b ≡ false) × (r ≡ Ok y)
+pub passed : {A : Type 0} (b : Bool) (d : XmFault) (r : Result A XmFault) (y : A) → cond b (Err d) r ≡ Ok y
+    → (b ≡ false) × (r ≡ Ok y)
 passed true d r y e = absurd cc
 passed false d r y e = (refl, e)
 
@@ -54,22 +57,31 @@ ok_is x y e = cc
 
 -- ---- fields and numbers
 
-field_front : (at : ℕ) (piece rest : List ℕ) → field_at (length piece) (record { at = at; left = piece ++ rest }) ≡ Ok (piece, record { at = at + length piece; left = rest })
+field_front : (at : ℕ) (piece rest : List ℕ)
+    → field_at (length piece) (record { at = at; left = piece ++ rest })
+        ≡ Ok (piece, record { at = at + length piece; left = rest })
 unfolding field_at
 field_front at piece rest =
-    let long : ltb (length (piece ++ rest)) (length piece) ≡ false = le-ltb _ _ (omega (arith, length-append piece rest)) in
+    let long : ltb (length (piece ++ rest)) (length piece) ≡ false =
+        le-ltb _ _ (omega (arith, length-append piece rest)) in
     rw (long, take-append_seam piece rest, drop-append_seam piece rest) refl
 
-pub field_again : (at : ℕ) (piece rest : List ℕ) (n : ℕ) → length piece ≡ n → field_at n (record { at = at; left = piece ++ rest }) ≡ Ok (piece, record { at = at + length piece; left = rest })
+pub field_again : (at : ℕ) (piece rest : List ℕ) (n : ℕ) → length piece ≡ n
+    → field_at n (record { at = at; left = piece ++ rest }) ≡ Ok (piece, record { at = at + length piece; left = rest })
 field_again at piece rest n len =
-    subst (λ (k : ℕ). field_at k (record { at = at; left = piece ++ rest }) ≡ Ok (piece, record { at = at + length piece; left = rest })) len (field_front at piece rest)
+    subst
+        (λ (k : ℕ).
+            field_at k (record { at = at; left = piece ++ rest })
+            ≡ Ok (piece, record { at = at + length piece; left = rest })) len (field_front at piece rest)
 
-field_takes : (n : ℕ) (p : Place) (x : List ℕ × Place) → AreBytes p.left → field_at n p ≡ Ok x → Takes (λ (l : List ℕ). l) (IsField n) p x
+field_takes : (n : ℕ) (p : Place) (x : List ℕ × Place) → AreBytes p.left → field_at n p ≡ Ok x
+    → Takes (λ (l : List ℕ). l) (IsField n) p x
 unfolding field_at
 field_takes n p x fits e =
     let g = passed _ _ _ x e in
     let long : n ≤ length p.left = ltb-false _ _ g.0 in
-    subst (λ (y : List ℕ × Place). Takes (λ (l : List ℕ). l) (IsField n) p y) (ok_is (take n p.left, record { at = p.at + n; left = drop n p.left }) x g.1)
+    subst (λ (y : List ℕ × Place). Takes (λ (l : List ℕ). l) (IsField n) p y)
+        (ok_is (take n p.left, record { at = p.at + n; left = drop n p.left }) x g.1)
     (record {
       fits = (omega (arith, length-take n p.left), AreBytes-take n p.left fits);
       parts = sym (take-append-drop n p.left);
@@ -100,11 +112,15 @@ back_4 bytes len fits = le_bytes_4 bytes (little_number 4 bytes) len fits (omega
 reads_back : (n v : ℕ) → v < 256 ^ n → little_number n (little_bytes n v) ≡ v
 reads_back n v lt = ap (little_number n) (sym (append-nil (little_bytes n v))) ∙ little_number-reads_back n v [] lt
 
-number_again : (n at v : ℕ) (rest : List ℕ) → v < 256 ^ n → number_at n (record { at = at; left = little_bytes n v ++ rest }) ≡ Ok (v, record { at = at + length (little_bytes n v); left = rest })
+number_again : (n at v : ℕ) (rest : List ℕ) → v < 256 ^ n
+    → number_at n (record { at = at; left = little_bytes n v ++ rest })
+        ≡ Ok (v, record { at = at + length (little_bytes n v); left = rest })
 unfolding number_at
-number_again n at v rest lt = rw (field_again at (little_bytes n v) rest n (length-bytes_low_first 0 n v), reads_back n v lt) refl
+number_again n at v rest lt =
+    rw (field_again at (little_bytes n v) rest n (length-bytes_low_first 0 n v), reads_back n v lt) refl
 
-number_takes : (n : ℕ) (p : Place) (x : ℕ × Place) → GivesBack n → AreBytes p.left → number_at n p ≡ Ok x → Takes (little_bytes n) (IsNumber n) p x
+number_takes : (n : ℕ) (p : Place) (x : ℕ × Place) → GivesBack n → AreBytes p.left → number_at n p ≡ Ok x
+    → Takes (little_bytes n) (IsNumber n) p x
 unfolding number_at
 number_takes n p x back fits e =
     let a = bind_ok (field_at n p) (λ f. Ok (little_number n f.0, f.1)) x e in
@@ -138,18 +154,25 @@ both_text t u x = t x.0 ++ u x.0 x.1
 abbrev pub BothFit : {A B : Type 0} → (A → Type 0) → (A → B → Type 0) → A × B → Type 0
 BothFit F G x = F x.0 × G x.0 x.1
 
-both_again : {A B : Type 0} (one : Reading A) (other : A → Reading B) (t : A → List ℕ) (u : A → B → List ℕ) (F : A → Type 0) (G : A → B → Type 0)
+both_again :
+    {A B : Type 0} (one : Reading A) (other : A → Reading B) (t : A → List ℕ) (u : A → B → List ℕ) (F : A → Type 0)
+        (G : A → B → Type 0)
     → Lawful one t F → ((a : A) → F a → Lawful (other a) (u a) (G a))
     → (at : ℕ) (a : A) (b : B) (rest : List ℕ) → F a → G a b
-    → both one other (record { at = at; left = (t a ++ u a b) ++ rest }) ≡ Ok ((a, b), record { at = at + length (t a ++ u a b); left = rest })
+    → both one other (record { at = at; left = (t a ++ u a b) ++ rest })
+        ≡ Ok ((a, b), record { at = at + length (t a ++ u a b); left = rest })
 both_again {A = A} {B = B} one other t u F G law laws at a b rest f g =
-    let n : at + length (t a ++ u a b) ≡ at + length (t a) + length (u a b) = omega (arith, length-append (t a) (u a b)) in
+    let n : at + length (t a ++ u a b) ≡ at + length (t a) + length (u a b) =
+        omega (arith, length-append (t a) (u a b)) in
     ap (λ (left : List ℕ). both one other (record { at = at; left = left })) (append_assoc (t a) (u a b) rest)
     ∙ rw (law.again at a (u a b ++ rest) f, (laws a f).again (at + length (t a)) b rest g, n) refl
 
-both_takes : {A B : Type 0} (one : Reading A) (other : A → Reading B) (t : A → List ℕ) (u : A → B → List ℕ) (F : A → Type 0) (G : A → B → Type 0)
+both_takes :
+    {A B : Type 0} (one : Reading A) (other : A → Reading B) (t : A → List ℕ) (u : A → B → List ℕ) (F : A → Type 0)
+        (G : A → B → Type 0)
     → Lawful one t F → ((a : A) → F a → Lawful (other a) (u a) (G a))
-    → (p : Place) (x : (A × B) × Place) → AreBytes p.left → both one other p ≡ Ok x → Takes (both_text t u) (BothFit F G) p x
+    → (p : Place) (x : (A × B) × Place) → AreBytes p.left → both one other p ≡ Ok x
+        → Takes (both_text t u) (BothFit F G) p x
 both_takes {A = A} {B = B} one other t u F G law laws p x bytes e =
     let a = bind_ok (one p) _ x e in
     let s = law.takes p a.0 bytes a.1 in
@@ -159,12 +182,16 @@ both_takes {A = A} {B = B} one other t u F G law laws p x bytes e =
     subst (λ (y : (A × B) × Place). Takes (both_text t u) (BothFit F G) p y) (ok_is made x b.2)
     (record {
       fits = (s.fits, r.fits);
-      parts = s.parts ∙ ap (λ (l : List ℕ). t a.0.0 ++ l) r.parts ∙ sym (append_assoc (t a.0.0) (u a.0.0 b.0.0) b.0.1.left);
+      parts =
+          s.parts ∙ ap (λ (l : List ℕ). t a.0.0 ++ l) r.parts ∙ sym (append_assoc (t a.0.0) (u a.0.0 b.0.0) b.0.1.left);
       bytes = r.bytes;
     })
 
-pub both_law : {A B : Type 0} (one : Reading A) (other : A → Reading B) (t : A → List ℕ) (u : A → B → List ℕ) (F : A → Type 0) (G : A → B → Type 0)
-    → Lawful one t F → ((a : A) → F a → Lawful (other a) (u a) (G a)) → Lawful (both one other) (both_text t u) (BothFit F G)
+pub both_law :
+    {A B : Type 0} (one : Reading A) (other : A → Reading B) (t : A → List ℕ) (u : A → B → List ℕ) (F : A → Type 0)
+        (G : A → B → Type 0)
+    → Lawful one t F → ((a : A) → F a → Lawful (other a) (u a) (G a))
+        → Lawful (both one other) (both_text t u) (BothFit F G)
 both_law one other t u F G law laws = record {
   again = λ at x rest fits. both_again one other t u F G law laws at x.0 x.1 rest fits.0 fits.1;
   takes = λ p x bytes e. both_takes one other t u F G law laws p x bytes e;
@@ -175,7 +202,8 @@ both_law one other t u F G law laws = record {
 abbrev pub Passes : {A : Type 0} → (A → Type 0) → (A → Bool) → A → Type 0
 Passes F is_bad x = F x × (is_bad x ≡ false)
 
-checked_takes : {A : Type 0} (is_bad : A → Bool) (fault : ℕ → A → XmFault) (one : Reading A) (t : A → List ℕ) (F : A → Type 0) → Lawful one t F
+checked_takes : {A : Type 0} (is_bad : A → Bool) (fault : ℕ → A → XmFault) (one : Reading A) (t : A → List ℕ)
+    (F : A → Type 0) → Lawful one t F
     → (p : Place) (x : A × Place) → AreBytes p.left → checked is_bad fault one p ≡ Ok x → Takes t (Passes F is_bad) p x
 checked_takes {A = A} is_bad fault one t F law p x bytes e =
     let a = bind_ok (one p) _ x e in
@@ -184,7 +212,8 @@ checked_takes {A = A} is_bad fault one t F law p x bytes e =
     subst (λ (y : A × Place). Takes t (Passes F is_bad) p y) (ok_is a.0 x b.1)
     (record { fits = (s.fits, b.0); parts = s.parts; bytes = s.bytes })
 
-pub checked_law : {A : Type 0} (is_bad : A → Bool) (fault : ℕ → A → XmFault) (one : Reading A) (t : A → List ℕ) (F : A → Type 0) → Lawful one t F → Lawful (checked is_bad fault one) t (Passes F is_bad)
+pub checked_law : {A : Type 0} (is_bad : A → Bool) (fault : ℕ → A → XmFault) (one : Reading A) (t : A → List ℕ)
+    (F : A → Type 0) → Lawful one t F → Lawful (checked is_bad fault one) t (Passes F is_bad)
 checked_law is_bad fault one t F law = record {
   again = λ at x rest fits. rw (law.again at x rest fits.0, fits.1) refl;
   takes = λ p x bytes e. checked_takes is_bad fault one t F law p x bytes e;
@@ -197,14 +226,18 @@ abbrev pub IsSeen : {A B : Type 0} → (A → B) → (A → List ℕ) → (A →
 IsSeen {A = A} view t F u G = (x : A) → F x → G (view x) × (t x ≡ u (view x))
 
 -- each value that fits is the view of one that fits and is spelled alike
-abbrev pub IsView : {A B : Type 0} → (A → B) → (B → A) → (A → List ℕ) → (A → Type 0) → (B → List ℕ) → (B → Type 0) → Type 0
+abbrev pub IsView : {A B : Type 0} → (A → B) → (B → A) → (A → List ℕ) → (A → Type 0) → (B → List ℕ) → (B → Type 0)
+    → Type 0
 IsView {A = A} {B = B} view back t F u G = (y : B) → G y → F (back y) × (view (back y) ≡ y) × (t (back y) ≡ u y)
 
 seen_again : {A B : Type 0} (view : A → B) (one : Reading A) (t : A → List ℕ) (F : A → Type 0) → Lawful one t F
-    → (at : ℕ) (x : A) (y : B) (text rest : List ℕ) → F x → view x ≡ y → t x ≡ text → seen view one (record { at = at; left = text ++ rest }) ≡ Ok (y, record { at = at + length text; left = rest })
+    → (at : ℕ) (x : A) (y : B) (text rest : List ℕ) → F x → view x ≡ y → t x ≡ text
+        → seen view one (record { at = at; left = text ++ rest })
+            ≡ Ok (y, record { at = at + length text; left = rest })
 seen_again view one t F law at x y text rest f v e = rw (sym e, sym v) (rw (law.again at x rest f) refl)
 
-seen_takes : {A B : Type 0} (view : A → B) (one : Reading A) (t : A → List ℕ) (F : A → Type 0) (u : B → List ℕ) (G : B → Type 0) → Lawful one t F → IsSeen view t F u G
+seen_takes : {A B : Type 0} (view : A → B) (one : Reading A) (t : A → List ℕ) (F : A → Type 0) (u : B → List ℕ)
+    (G : B → Type 0) → Lawful one t F → IsSeen view t F u G
     → (p : Place) (y : B × Place) → AreBytes p.left → seen view one p ≡ Ok y → Takes u G p y
 seen_takes {A = A} {B = B} view one t F u G law is_seen p y bytes e =
     let a = bind_ok (one p) _ y e in
@@ -214,7 +247,9 @@ seen_takes {A = A} {B = B} view one t F u G law is_seen p y bytes e =
     subst (λ (z : B × Place). Takes u G p z) (ok_is made y a.2)
     (record { fits = w.0; parts = s.parts ∙ ap (λ (l : List ℕ). l ++ a.0.1.left) w.1; bytes = s.bytes })
 
-pub seen_law : {A B : Type 0} (view : A → B) (back : B → A) (one : Reading A) (t : A → List ℕ) (F : A → Type 0) (u : B → List ℕ) (G : B → Type 0)
+pub seen_law :
+    {A B : Type 0} (view : A → B) (back : B → A) (one : Reading A) (t : A → List ℕ) (F : A → Type 0) (u : B → List ℕ)
+        (G : B → Type 0)
     → Lawful one t F → IsSeen view t F u G → IsView view back t F u G → Lawful (seen view one) u G
 seen_law view back one t F u G law is_seen is_view = record {
   again = λ at y rest fits. let v = is_view y fits in seen_again view one t F law at (back y) y (u y) rest v.0 v.1 v.2;
@@ -222,22 +257,29 @@ seen_law view back one t F u G law is_seen is_view = record {
 }
 
 -- values that fit by another name
-pub refit_law : {A : Type 0} (one : Reading A) (t : A → List ℕ) (F G : A → Type 0) → Lawful one t F → ((x : A) → F x → G x) → ((x : A) → G x → F x) → Lawful one t G
+pub refit_law : {A : Type 0} (one : Reading A) (t : A → List ℕ) (F G : A → Type 0) → Lawful one t F
+    → ((x : A) → F x → G x) → ((x : A) → G x → F x) → Lawful one t G
 refit_law one t F G law there back = record {
   again = λ at x rest fits. law.again at x rest (back x fits);
-  takes = λ p x bytes e. let s = law.takes p x bytes e in record { fits = there x.0 s.fits; parts = s.parts; bytes = s.bytes };
+  takes =
+      λ p x bytes e.
+      let s = law.takes p x bytes e in record { fits = there x.0 s.fits; parts = s.parts; bytes = s.bytes };
 }
 
 -- ---- more forms
 
 -- two parts of which neither depends on the other
-pub pair_law : {A B : Type 0} (one : Reading A) (other : Reading B) (t : A → List ℕ) (u : B → List ℕ) (F : A → Type 0) (G : B → Type 0)
-    → Lawful one t F → Lawful other u G → Lawful (both one (λ _. other)) (both_text t (λ _ b. u b)) (BothFit F (λ _ b. G b))
+pub pair_law :
+    {A B : Type 0} (one : Reading A) (other : Reading B) (t : A → List ℕ) (u : B → List ℕ) (F : A → Type 0)
+        (G : B → Type 0)
+    → Lawful one t F → Lawful other u G
+        → Lawful (both one (λ _. other)) (both_text t (λ _ b. u b)) (BothFit F (λ _ b. G b))
 pair_law one other t u F G law more = both_law one (λ _. other) t (λ _ b. u b) F (λ _ b. G b) law (λ _ _. more)
 
 -- a value that is kept in another form
 pub kept_law : {A B : Type 0} (view : A → B) (back : B → A) (one : Reading A) (t : A → List ℕ) (F : A → Type 0)
-    → Lawful one t F → ((x : A) → F x → back (view x) ≡ x) → ((y : B) → view (back y) ≡ y) → Lawful (seen view one) (λ y. t (back y)) (λ y. F (back y))
+    → Lawful one t F → ((x : A) → F x → back (view x) ≡ x) → ((y : B) → view (back y) ≡ y)
+        → Lawful (seen view one) (λ y. t (back y)) (λ y. F (back y))
 kept_law view back one t F law there here = seen_law view back one t F (λ y. t (back y)) (λ y. F (back y)) law
     (λ x f. (subst F (sym (there x f)) f, ap t (sym (there x f))))
     (λ y g. (g, here y, refl))
@@ -252,9 +294,15 @@ pub u32_law : Lawful (number_at 4) (little_bytes 4) (IsNumber 4)
 u32_law = number_law 4 back_4
 
 -- the same values with another text
-pub text_law : {A : Type 0} (one : Reading A) (t u : A → List ℕ) (F : A → Type 0) → Lawful one t F → ((x : A) → F x → t x ≡ u x) → Lawful one u F
+pub text_law : {A : Type 0} (one : Reading A) (t u : A → List ℕ) (F : A → Type 0) → Lawful one t F
+    → ((x : A) → F x → t x ≡ u x) → Lawful one u F
 text_law {A = A} one t u F law same = record {
-  again = λ at x rest fits. subst (λ (text : List ℕ). one (record { at = at; left = text ++ rest }) ≡ Ok (x, record { at = at + length text; left = rest })) (same x fits) (law.again at x rest fits);
+  again =
+      λ at x rest fits.
+      subst
+      (λ (text : List ℕ).
+          one (record { at = at; left = text ++ rest }) ≡ Ok (x, record { at = at + length text; left = rest }))
+      (same x fits) (law.again at x rest fits);
   takes = λ p x bytes e.
       let t = law.takes p x bytes e in
       record { fits = t.fits; parts = t.parts ∙ ap (λ (l : List ℕ). l ++ x.1.left) (same x.0 t.fits); bytes = t.bytes };
@@ -275,7 +323,8 @@ count_law most = checked_law (nat_lt most) Count (number_at 2) (little_bytes 2) 
 
 -- ---- a byte that may be left out
 
-none_takes : (p : Place) (x : ℕ × Place) → AreBytes p.left → byte_if false p ≡ Ok x → Takes (byte_if_text false) (IsByteIf false) p x
+none_takes : (p : Place) (x : ℕ × Place) → AreBytes p.left → byte_if false p ≡ Ok x
+    → Takes (byte_if_text false) (IsByteIf false) p x
 none_takes p x bytes e =
     let made : ℕ × Place = (0, p) in
     subst (λ (y : ℕ × Place). Takes (byte_if_text false) (IsByteIf false) p y) (ok_is made x e)
@@ -285,7 +334,13 @@ pub no_text : (at : ℕ) → at + length {A = ℕ} [] ≡ at
 no_text at = omega arith
 
 pub byte_if_law : (b : Bool) → Lawful (byte_if b) (byte_if_text b) (IsByteIf b)
-byte_if_law true = record { again = λ at x rest fits. byte_law.again at x rest fits; takes = λ p x bytes e. let t = byte_law.takes p x bytes e in record { fits = t.fits; parts = t.parts; bytes = t.bytes } }
+byte_if_law true =
+    record {
+      again = λ at x rest fits. byte_law.again at x rest fits;
+      takes =
+          λ p x bytes e.
+          let t = byte_law.takes p x bytes e in record { fits = t.fits; parts = t.parts; bytes = t.bytes };
+    }
 byte_if_law false = record {
   again = λ at x rest fits. rw (fits, no_text at) refl;
   takes = λ p x bytes e. none_takes p x bytes e;
@@ -297,7 +352,8 @@ abbrev pub within_text : {A : Type 0} → (A → List ℕ) → A × List ℕ →
 within_text t x = t x.0 ++ x.1
 
 within_takes : {A : Type 0} (n : ℕ) (one : Reading A) (t : A → List ℕ) (F : A → Type 0) → Lawful one t F
-    → (p : Place) (x : (A × List ℕ) × Place) → AreBytes p.left → in_piece n one p ≡ Ok x → Takes (within_text t) (FitsWithin n t F) p x
+    → (p : Place) (x : (A × List ℕ) × Place) → AreBytes p.left → in_piece n one p ≡ Ok x
+        → Takes (within_text t) (FitsWithin n t F) p x
 unfolding piece_at
 within_takes {A = A} n one t F law p x bytes e =
     let g = bind_ok (piece_at n p) _ x e in
@@ -306,7 +362,9 @@ within_takes {A = A} n one t F law p x bytes e =
     let inner : Place = record { at = p.at; left = f.0.0 } in
     let piece : Place × Place = (inner, f.0.1) in
     let same = ok_is piece g.0 f.2 in
-    let a = bind_ok (one inner) _ x (subst (λ (y : Place × Place). (one y.0 >>= λ z. Ok ((z.0, z.1.left), y.1)) ≡ Ok x) (sym same) g.2) in
+    let a =
+        bind_ok (one inner) _ x
+        (subst (λ (y : Place × Place). (one y.0 >>= λ z. Ok ((z.0, z.1.left), y.1)) ≡ Ok x) (sym same) g.2) in
     let r = law.takes inner a.0 s.fits.1 a.1 in
     let made : (A × List ℕ) × Place = ((a.0.0, a.0.1.left), f.0.1) in
     subst (λ (y : (A × List ℕ) × Place). Takes (within_text t) (FitsWithin n t F) p y) (ok_is made x a.2)
@@ -316,7 +374,8 @@ within_takes {A = A} n one t F law p x bytes e =
       bytes = s.bytes;
     })
 
-pub within_law : {A : Type 0} (n : ℕ) (one : Reading A) (t : A → List ℕ) (F : A → Type 0) → Lawful one t F → Lawful (in_piece n one) (within_text t) (FitsWithin n t F)
+pub within_law : {A : Type 0} (n : ℕ) (one : Reading A) (t : A → List ℕ) (F : A → Type 0) → Lawful one t F
+    → Lawful (in_piece n one) (within_text t) (FitsWithin n t F)
 unfolding piece_at
 within_law n one t F law = record {
   again = λ at x rest fits. rw (field_again at (t x.0 ++ x.1) rest n fits.whole, law.again at x.0 x.1 fits.fits) refl;
@@ -327,16 +386,22 @@ within_law n one t F law = record {
 
 times_again : {A : Type 0} (one : ℕ → Reading A) (t : A → List ℕ) (F : A → Type 0) → ((k : ℕ) → Lawful (one k) t F)
     → (first at : ℕ) (xs : List A) (rest : List ℕ) → All F xs
-    → times one first (length xs) (record { at = at; left = flat_map t xs ++ rest }) ≡ Ok (xs, record { at = at + length (flat_map t xs); left = rest })
+    → times one first (length xs) (record { at = at; left = flat_map t xs ++ rest })
+        ≡ Ok (xs, record { at = at + length (flat_map t xs); left = rest })
 unfolding times
 times_again one t F law first at [] rest all = rw (no_text at) refl
 times_again one t F law first at (x ∷ xs) rest all =
-    let n : at + length (t x ++ flat_map t xs) ≡ at + length (t x) + length (flat_map t xs) = omega (arith, length-append (t x) (flat_map t xs)) in
-    ap (λ (left : List ℕ). times one first (suc (length xs)) (record { at = at; left = left })) (append_assoc (t x) (flat_map t xs) rest)
-    ∙ rw ((law first).again at x (flat_map t xs ++ rest) (All-head F x xs all), times_again one t F law (suc first) (at + length (t x)) xs rest (All-tail F x xs all), n) refl
+    let n : at + length (t x ++ flat_map t xs) ≡ at + length (t x) + length (flat_map t xs) =
+        omega (arith, length-append (t x) (flat_map t xs)) in
+    ap (λ (left : List ℕ). times one first (suc (length xs)) (record { at = at; left = left }))
+        (append_assoc (t x) (flat_map t xs) rest)
+    ∙ rw
+        ((law first).again at x (flat_map t xs ++ rest) (All-head F x xs all), times_again one t F law (suc first)
+            (at + length (t x)) xs rest (All-tail F x xs all), n) refl
 
 times_takes : {A : Type 0} (one : ℕ → Reading A) (t : A → List ℕ) (F : A → Type 0) → ((k : ℕ) → Lawful (one k) t F)
-    → (first n : ℕ) (p : Place) (x : List A × Place) → AreBytes p.left → times one first n p ≡ Ok x → Takes (flat_map t) (AllFit n F) p x
+    → (first n : ℕ) (p : Place) (x : List A × Place) → AreBytes p.left → times one first n p ≡ Ok x
+        → Takes (flat_map t) (AllFit n F) p x
 unfolding times
 times_takes {A = A} one t F law first zero p x bytes e =
     let made : List A × Place = ([], p) in
@@ -351,14 +416,22 @@ times_takes {A = A} one t F law first (suc n) p x bytes e =
     subst (λ (y : List A × Place). Takes (flat_map t) (AllFit (suc n) F) p y) (ok_is made x b.2)
     (record {
       fits = record { count = ap suc r.fits.count; each = All-cons F a.0.0 b.0.0 s.fits r.fits.each };
-      parts = s.parts ∙ ap (λ (l : List ℕ). t a.0.0 ++ l) r.parts ∙ sym (append_assoc (t a.0.0) (flat_map t b.0.0) b.0.1.left);
+      parts =
+          s.parts ∙ ap (λ (l : List ℕ). t a.0.0 ++ l) r.parts
+          ∙ sym (append_assoc (t a.0.0) (flat_map t b.0.0) b.0.1.left);
       bytes = r.bytes;
     })
 
 pub times_law : {A : Type 0} (one : ℕ → Reading A) (t : A → List ℕ) (F : A → Type 0) → ((k : ℕ) → Lawful (one k) t F)
     → (first n : ℕ) → Lawful (times one first n) (flat_map t) (AllFit n F)
 times_law {A = A} one t F law first n = record {
-  again = λ at xs rest fits. subst (λ (k : ℕ). times one first k (record { at = at; left = flat_map t xs ++ rest }) ≡ Ok (xs, record { at = at + length (flat_map t xs); left = rest })) fits.count (times_again one t F law first at xs rest fits.each);
+  again =
+      λ at xs rest fits.
+      subst
+      (λ (k : ℕ).
+          times one first k (record { at = at; left = flat_map t xs ++ rest })
+          ≡ Ok (xs, record { at = at + length (flat_map t xs); left = rest })) fits.count
+      (times_again one t F law first at xs rest fits.each);
   takes = λ p x bytes e. times_takes one t F law first n p x bytes e;
 }
 
@@ -368,7 +441,8 @@ times_law {A = A} one t F law first n = record {
 abbrev pub Alike : {A : Type 0} → Reading A → Reading A → Type 0
 Alike one other = (p : Place) → one p ≡ other p
 
-pub alike_law : {A : Type 0} (one other : Reading A) (t : A → List ℕ) (F : A → Type 0) → Alike one other → Lawful other t F → Lawful one t F
+pub alike_law : {A : Type 0} (one other : Reading A) (t : A → List ℕ) (F : A → Type 0) → Alike one other
+    → Lawful other t F → Lawful one t F
 alike_law one other t F same law = record {
   again = λ at x rest fits. same (record { at = at; left = t x ++ rest }) ∙ law.again at x rest fits;
   takes = λ p x bytes e. law.takes p x bytes (sym (same p) ∙ e);
@@ -380,11 +454,13 @@ paired a b = Ok ((a, b.0), b.1)
 abbrev viewed : {A B : Type 0} → (A → B) → A × Place → Result (B × Place) XmFault
 viewed view x = Ok (view x.0, x.1)
 
-seen_both : {A B C : Type 0} (view : A × B → C) (a : A) (r : Result (B × Place) XmFault) → (r >>= viewed (λ b. view (a, b))) ≡ ((r >>= paired a) >>= viewed view)
+seen_both : {A B C : Type 0} (view : A × B → C) (a : A) (r : Result (B × Place) XmFault)
+    → (r >>= viewed (λ b. view (a, b))) ≡ ((r >>= paired a) >>= viewed view)
 seen_both view a (Ok b) = refl
 seen_both view a (Err f) = refl
 
-next_step : {A B C : Type 0} (view : A × B → C) (other : A → Reading B) (whole : A → Reading C) (r : Result (A × Place) XmFault)
+next_step :
+    {A B C : Type 0} (view : A × B → C) (other : A → Reading B) (whole : A → Reading C) (r : Result (A × Place) XmFault)
     → ((a : A) → Alike (whole a) (seen (λ b. view (a, b)) (other a)))
     → (r >>= λ x. whole x.0 x.1) ≡ ((r >>= λ x. (other x.0 x.1 >>= paired x.0)) >>= viewed view)
 next_step view other whole (Ok x) same = same x.0 x.1 ∙ seen_both view x.0 (other x.0 x.1)
@@ -392,7 +468,8 @@ next_step view other whole (Err f) same = refl
 
 -- a part and a whole, where that sees what comes next
 pub next_alike : {A B C : Type 0} (view : A × B → C) (one : Reading A) (other : A → Reading B) (whole : A → Reading C)
-    → ((a : A) → Alike (whole a) (seen (λ b. view (a, b)) (other a))) → Alike (and_then one whole) (seen view (both one other))
+    → ((a : A) → Alike (whole a) (seen (λ b. view (a, b)) (other a)))
+        → Alike (and_then one whole) (seen view (both one other))
 next_alike view one other whole same p = next_step view other whole (one p) same
 
 seen_same_step : {A : Type 0} (r : Result (A × Place) XmFault) → r ≡ (r >>= viewed (λ x. x))

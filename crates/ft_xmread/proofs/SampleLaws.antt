@@ -23,7 +23,9 @@ abbrev Fields : Type 0
 Fields = ℕ × (ℕ × (ℕ × (ℕ × (ℕ × (ℕ × (ℕ × (ℕ × (ℕ × List ℕ))))))))
 
 abbrev fields_of : SampleHeader → Fields
-fields_of h = (h.length, (h.loop_start, (h.loop_len, (h.volume, (h.finetune, (h.kind, (h.panning, (h.relative, (h.skipped, h.name)))))))))
+fields_of h =
+    (h.length,
+    (h.loop_start, (h.loop_len, (h.volume, (h.finetune, (h.kind, (h.panning, (h.relative, (h.skipped, h.name)))))))))
 
 abbrev make : Fields → SampleHeader
 make x = record {
@@ -48,7 +50,12 @@ abbrev last_parts : Reading (ℕ × (ℕ × (ℕ × (ℕ × List ℕ))))
 last_parts = both5 (number_at 1) (number_at 1) (number_at 1) (number_at 1) (field_at 22)
 
 abbrev fields_parts : Reading SampleHeader
-fields_parts = seen make (both (number_at 4) (λ _. both (number_at 4) (λ _. both (number_at 4) (λ _. both (number_at 1) (λ _. both (number_at 1) (λ _. last_parts))))))
+fields_parts =
+    seen make
+    (both (number_at 4)
+        (λ _.
+            both (number_at 4)
+            (λ _. both (number_at 4) (λ _. both (number_at 1) (λ _. both (number_at 1) (λ _. last_parts))))))
 
 abbrev made : ℕ → ℕ → ℕ → ℕ → ℕ → ℕ → ℕ → ℕ → ℕ → List ℕ → SampleHeader
 made length loop_start loop_len volume finetune kind panning relative skipped name = record {
@@ -82,27 +89,49 @@ last9 a = and_then (number_at 4) (last8 a)
 abbrev Last6 : Type 0
 Last6 = ℕ × (ℕ × (ℕ × (ℕ × (ℕ × List ℕ))))
 
-alike6 : (a b d e : ℕ) → Alike (last6 a b d e) (seen (λ (x : Last6). make (a, (b, (d, (e, x))))) (both (number_at 1) (λ _. last_parts)))
+alike6 : (a b d e : ℕ)
+    → Alike (last6 a b d e) (seen (λ (x : Last6). make (a, (b, (d, (e, x))))) (both (number_at 1) (λ _. last_parts)))
 alike6 a b d e = next_alike (λ (x : Last6). make (a, (b, (d, (e, x))))) (number_at 1) (λ _. last_parts) (last5 a b d e)
     (λ f. alike5 (number_at 1) (number_at 1) (number_at 1) (number_at 1) (field_at 22) (made a b d e f))
 
-alike7 : (a b d : ℕ) → Alike (last7 a b d) (seen (λ (x : ℕ × Last6). make (a, (b, (d, x)))) (both (number_at 1) (λ _. both (number_at 1) (λ _. last_parts))))
-alike7 a b d = next_alike (λ (x : ℕ × Last6). make (a, (b, (d, x)))) (number_at 1) (λ _. both (number_at 1) (λ _. last_parts)) (last6 a b d) (alike6 a b d)
+alike7 : (a b d : ℕ)
+    → Alike (last7 a b d)
+        (seen (λ (x : ℕ × Last6). make (a, (b, (d, x))))
+            (both (number_at 1) (λ _. both (number_at 1) (λ _. last_parts))))
+alike7 a b d =
+    next_alike (λ (x : ℕ × Last6). make (a, (b, (d, x)))) (number_at 1) (λ _. both (number_at 1) (λ _. last_parts))
+    (last6 a b d) (alike6 a b d)
 
-alike8 : (a b : ℕ) → Alike (last8 a b) (seen (λ (x : ℕ × (ℕ × Last6)). make (a, (b, x))) (both (number_at 4) (λ _. both (number_at 1) (λ _. both (number_at 1) (λ _. last_parts)))))
-alike8 a b = next_alike (λ (x : ℕ × (ℕ × Last6)). make (a, (b, x))) (number_at 4) (λ _. both (number_at 1) (λ _. both (number_at 1) (λ _. last_parts))) (last7 a b) (alike7 a b)
+alike8 : (a b : ℕ)
+    → Alike (last8 a b)
+        (seen (λ (x : ℕ × (ℕ × Last6)). make (a, (b, x)))
+            (both (number_at 4) (λ _. both (number_at 1) (λ _. both (number_at 1) (λ _. last_parts)))))
+alike8 a b =
+    next_alike (λ (x : ℕ × (ℕ × Last6)). make (a, (b, x))) (number_at 4)
+    (λ _. both (number_at 1) (λ _. both (number_at 1) (λ _. last_parts))) (last7 a b) (alike7 a b)
 
-alike9 : (a : ℕ) → Alike (last9 a) (seen (λ (x : ℕ × (ℕ × (ℕ × Last6))). make (a, x)) (both (number_at 4) (λ _. both (number_at 4) (λ _. both (number_at 1) (λ _. both (number_at 1) (λ _. last_parts))))))
-alike9 a = next_alike (λ (x : ℕ × (ℕ × (ℕ × Last6))). make (a, x)) (number_at 4) (λ _. both (number_at 4) (λ _. both (number_at 1) (λ _. both (number_at 1) (λ _. last_parts)))) (last8 a) (alike8 a)
+alike9 : (a : ℕ)
+    → Alike (last9 a)
+        (seen (λ (x : ℕ × (ℕ × (ℕ × Last6))). make (a, x))
+            (both (number_at 4)
+                (λ _. both (number_at 4) (λ _. both (number_at 1) (λ _. both (number_at 1) (λ _. last_parts))))))
+alike9 a =
+    next_alike (λ (x : ℕ × (ℕ × (ℕ × Last6))). make (a, x)) (number_at 4)
+    (λ _. both (number_at 4) (λ _. both (number_at 1) (λ _. both (number_at 1) (λ _. last_parts)))) (last8 a) (alike8 a)
 
 fields_alike : Alike sample_fields_at fields_parts
 unfolding sample_fields_at
-fields_alike = next_alike make (number_at 4) (λ _. both (number_at 4) (λ _. both (number_at 4) (λ _. both (number_at 1) (λ _. both (number_at 1) (λ _. last_parts))))) last9 alike9
+fields_alike =
+    next_alike make (number_at 4)
+    (λ _.
+        both (number_at 4)
+        (λ _. both (number_at 4) (λ _. both (number_at 1) (λ _. both (number_at 1) (λ _. last_parts))))) last9 alike9
 
 parts_fields_law : Lawful fields_parts sample_header_text FieldsFit
 unfolding sample_header_text
 parts_fields_law = kept_law make fields_of _ _ _
-    (pair_law _ _ _ _ _ _ u32_law (pair_law _ _ _ _ _ _ u32_law (pair_law _ _ _ _ _ _ u32_law (pair_law _ _ _ _ _ _ byte_law (pair_law _ _ _ _ _ _ byte_law
+    (pair_law _ _ _ _ _ _ u32_law (pair_law _ _ _ _ _ _ u32_law (pair_law _ _ _ _ _ _ u32_law (pair_law _ _ _ _ _ _
+        byte_law (pair_law _ _ _ _ _ _ byte_law
     (pair_law _ _ _ _ _ _ byte_law (pair_law _ _ _ _ _ _ byte_law (pair_law _ _ _ _ _ _ byte_law (pair_law _ _ _ _ _ _ byte_law (field_law 22))))))))))
     (λ _ _. refl) (λ _. refl)
 
@@ -121,8 +150,11 @@ nothing l [] n e f = refl
 nothing l (x ∷ m) n e f = absurd (omega (arith, length-append l (x ∷ m), e, f))
 
 -- 40 bytes leave no surplus
-whole_law : Lawful (seen (λ (x : SampleHeader × List ℕ). x.0) (in_piece 40 sample_fields_at)) sample_header_text FieldsFit
-whole_law = seen_law (λ (x : SampleHeader × List ℕ). x.0) (λ h. (h, [])) (in_piece 40 sample_fields_at) (within_text sample_header_text) (FitsWithin 40 sample_header_text FieldsFit) sample_header_text FieldsFit
+whole_law :
+    Lawful (seen (λ (x : SampleHeader × List ℕ). x.0) (in_piece 40 sample_fields_at)) sample_header_text FieldsFit
+whole_law =
+    seen_law (λ (x : SampleHeader × List ℕ). x.0) (λ h. (h, [])) (in_piece 40 sample_fields_at)
+    (within_text sample_header_text) (FitsWithin 40 sample_header_text FieldsFit) sample_header_text FieldsFit
     (within_law 40 sample_fields_at sample_header_text FieldsFit fields_law)
     (λ x f. let none = nothing (sample_header_text x.0) x.1 40 f.whole (fields_length x.0 (name_fits x.0 f.fits).0) in
     (f.fits, ap (λ (l : List ℕ). sample_header_text x.0 ++ l) none ∙ append-nil (sample_header_text x.0)))
@@ -137,8 +169,10 @@ too_long header = nat_lt 3932160 (frame_count header)
 
 header_law : (instrument number : ℕ) → Lawful (sample_header_at instrument number) sample_header_text SampleHeaderFits
 unfolding sample_header_at
-header_law instrument number = refit_law _ sample_header_text (Passes (Passes FieldsFit is_stereo) too_long) SampleHeaderFits
-    (checked_law too_long (λ _ header. TooLong instrument number (frame_count header)) _ sample_header_text (Passes FieldsFit is_stereo)
+header_law instrument number =
+    refit_law _ sample_header_text (Passes (Passes FieldsFit is_stereo) too_long) SampleHeaderFits
+    (checked_law too_long (λ _ header. TooLong instrument number (frame_count header)) _ sample_header_text
+        (Passes FieldsFit is_stereo)
     (checked_law is_stereo (λ _ _. Stereo instrument number) _ sample_header_text FieldsFit whole_law))
     (λ x f. let a = f.0.0 in record {
       length = a.0;
@@ -179,21 +213,33 @@ pub record DataFits (headers : List SampleHeader) (raws : List RawSample) : Type
   pub each : All StepsFit raws
 
 samples_again : (at : ℕ) (raws : List RawSample) (rest : List ℕ) → All StepsFit raws
-    → samples_at (map header_of raws) (record { at = at; left = flat_map steps_of raws ++ rest }) ≡ Ok (map mean_of raws, record { at = at + length (flat_map steps_of raws); left = rest })
+    → samples_at (map header_of raws) (record { at = at; left = flat_map steps_of raws ++ rest })
+        ≡ Ok (map mean_of raws, record { at = at + length (flat_map steps_of raws); left = rest })
 unfolding samples_at
 samples_again at [] rest all = rw (no_text at) refl
 samples_again at (raw ∷ raws) rest all =
     let fits = All-head StepsFit raw raws all in
-    let n : at + length (raw.steps ++ flat_map steps_of raws) ≡ at + length raw.steps + length (flat_map steps_of raws) = omega (arith, length-append raw.steps (flat_map steps_of raws)) in
-    ap (λ (left : List ℕ). samples_at (map header_of (raw ∷ raws)) (record { at = at; left = left })) (append_assoc raw.steps (flat_map steps_of raws) rest)
-    ∙ rw (field_again at raw.steps (flat_map steps_of raws ++ rest) raw.header.length fits.0, samples_again (at + length raw.steps) raws rest (All-tail StepsFit raw raws all), n) refl
+    let n : at + length (raw.steps ++ flat_map steps_of raws) ≡ at + length raw.steps + length (flat_map steps_of raws) =
+        omega (arith, length-append raw.steps (flat_map steps_of raws)) in
+    ap (λ (left : List ℕ). samples_at (map header_of (raw ∷ raws)) (record { at = at; left = left }))
+        (append_assoc raw.steps (flat_map steps_of raws) rest)
+    ∙ rw
+        (field_again at raw.steps (flat_map steps_of raws ++ rest) raw.header.length fits.0, samples_again
+            (at + length raw.steps) raws rest (All-tail StepsFit raw raws all), n) refl
 
-samples_takes : (headers : List SampleHeader) (p : Place) (x : List Sample × Place) → AreBytes p.left → samples_at headers p ≡ Ok x → Reached (flat_map steps_of) (DataFits headers) (map mean_of) p x
+samples_takes : (headers : List SampleHeader) (p : Place) (x : List Sample × Place) → AreBytes p.left
+    → samples_at headers p ≡ Ok x → Reached (flat_map steps_of) (DataFits headers) (map mean_of) p x
 unfolding samples_at
 samples_takes [] p x bytes e =
     let made : List Sample × Place = ([], p) in
     subst (λ (y : List Sample × Place). Reached (flat_map steps_of) (DataFits []) (map mean_of) p y) (ok_is made x e)
-    (record { raw = []; fits = record { headed = refl; each = All-nil StepsFit }; parts = refl; value = refl; bytes = bytes })
+    (record {
+          raw = [];
+          fits = record { headed = refl; each = All-nil StepsFit };
+          parts = refl;
+          value = refl;
+          bytes = bytes;
+        })
 samples_takes (header ∷ headers) p x bytes e =
     let a = bind_ok (field_at header.length p) _ x e in
     let s = (field_law header.length).takes p a.0 bytes a.1 in
@@ -201,18 +247,31 @@ samples_takes (header ∷ headers) p x bytes e =
     let r = samples_takes headers a.0.1 b.0 s.bytes b.1 in
     let raw : RawSample = record { header = header; steps = a.0.0 } in
     let made : List Sample × Place = (sample_from header a.0.0 ∷ b.0.0, b.0.1) in
-    subst (λ (y : List Sample × Place). Reached (flat_map steps_of) (DataFits (header ∷ headers)) (map mean_of) p y) (ok_is made x b.2)
+    subst (λ (y : List Sample × Place). Reached (flat_map steps_of) (DataFits (header ∷ headers)) (map mean_of) p y)
+        (ok_is made x b.2)
     (record {
       raw = raw ∷ r.raw;
-      fits = record { headed = ap (λ (l : List SampleHeader). header ∷ l) r.fits.headed; each = All-cons StepsFit raw r.raw s.fits r.fits.each };
-      parts = s.parts ∙ ap (λ (l : List ℕ). a.0.0 ++ l) r.parts ∙ sym (append_assoc a.0.0 (flat_map steps_of r.raw) b.0.1.left);
+      fits = record {
+        headed = ap (λ (l : List SampleHeader). header ∷ l) r.fits.headed;
+        each = All-cons StepsFit raw r.raw s.fits r.fits.each;
+      };
+      parts =
+          s.parts ∙ ap (λ (l : List ℕ). a.0.0 ++ l) r.parts
+          ∙ sym (append_assoc a.0.0 (flat_map steps_of r.raw) b.0.1.left);
       value = ap (λ (l : List Sample). sample_from header a.0.0 ∷ l) r.value;
       bytes = r.bytes;
     })
 
-samples_law : (headers : List SampleHeader) → Spelled (samples_at headers) (flat_map steps_of) (DataFits headers) (map mean_of)
+samples_law : (headers : List SampleHeader)
+    → Spelled (samples_at headers) (flat_map steps_of) (DataFits headers) (map mean_of)
 samples_law headers = record {
-  again = λ at raws rest fits. subst (λ (l : List SampleHeader). samples_at l (record { at = at; left = flat_map steps_of raws ++ rest }) ≡ Ok (map mean_of raws, record { at = at + length (flat_map steps_of raws); left = rest })) fits.headed (samples_again at raws rest fits.each);
+  again =
+      λ at raws rest fits.
+      subst
+      (λ (l : List SampleHeader).
+          samples_at l (record { at = at; left = flat_map steps_of raws ++ rest })
+          ≡ Ok (map mean_of raws, record { at = at + length (flat_map steps_of raws); left = rest })) fits.headed
+      (samples_again at raws rest fits.each);
   takes = λ p x bytes e. samples_takes headers p x bytes e;
 }
 
@@ -230,10 +289,13 @@ PartsFit count x = AllFit count SampleHeaderFits x.0 × DataFits x.0 x.1
 abbrev parts_mean : Parts → List SampleHeader × List Sample
 parts_mean x = (x.0, map mean_of x.1)
 
-parts_law : (number count : ℕ) → Spelled (both (times (sample_header_at number) 0 count) samples_at) parts_text (PartsFit count) parts_mean
+parts_law : (number count : ℕ)
+    → Spelled (both (times (sample_header_at number) 0 count) samples_at) parts_text (PartsFit count) parts_mean
 parts_law number count = both_spelled (times (sample_header_at number) 0 count) samples_at
-    (flat_map sample_header_text) (λ _ raws. flat_map steps_of raws) (AllFit count SampleHeaderFits) (λ headers. DataFits headers) same (λ _. map mean_of)
-    (lawful_spelled (times (sample_header_at number) 0 count) (flat_map sample_header_text) (AllFit count SampleHeaderFits)
+    (flat_map sample_header_text) (λ _ raws. flat_map steps_of raws) (AllFit count SampleHeaderFits)
+        (λ headers. DataFits headers) same (λ _. map mean_of)
+    (lawful_spelled (times (sample_header_at number) 0 count) (flat_map sample_header_text)
+        (AllFit count SampleHeaderFits)
     (times_law (sample_header_at number) sample_header_text SampleHeaderFits (header_law number) 0 count))
     (λ headers _. samples_law headers)
 
@@ -247,15 +309,21 @@ same_headers (raw ∷ raws) = ap (λ (l : List ℕ). sample_header_text raw.head
 
 heads_fit : (raws : List RawSample) → All RawSampleFits raws → All SampleHeaderFits (map header_of raws)
 heads_fit [] all = All-nil SampleHeaderFits
-heads_fit (raw ∷ raws) all = All-cons SampleHeaderFits raw.header (map header_of raws) (All-head RawSampleFits raw raws all).header (heads_fit raws (All-tail RawSampleFits raw raws all))
+heads_fit (raw ∷ raws) all =
+    All-cons SampleHeaderFits raw.header (map header_of raws) (All-head RawSampleFits raw raws all).header
+    (heads_fit raws (All-tail RawSampleFits raw raws all))
 
 steps_fit : (raws : List RawSample) → All RawSampleFits raws → All StepsFit raws
 steps_fit raws all = λ k d lt. (all k d lt).steps
 
-raws_fit : (raws : List RawSample) → All SampleHeaderFits (map header_of raws) → All StepsFit raws → All RawSampleFits raws
+raws_fit : (raws : List RawSample) → All SampleHeaderFits (map header_of raws) → All StepsFit raws
+    → All RawSampleFits raws
 raws_fit [] heads all = All-nil RawSampleFits
 raws_fit (raw ∷ raws) heads all = All-cons RawSampleFits raw raws
-    (record { header = All-head SampleHeaderFits raw.header (map header_of raws) heads; steps = All-head StepsFit raw raws all })
+    (record {
+          header = All-head SampleHeaderFits raw.header (map header_of raws) heads;
+          steps = All-head StepsFit raw raws all;
+        })
     (raws_fit raws (All-tail SampleHeaderFits raw.header (map header_of raws) heads) (All-tail StepsFit raw raws all))
 
 count_headers : (raws : List RawSample) → length (map header_of raws) ≡ length raws
@@ -265,15 +333,19 @@ count_headers (raw ∷ raws) = ap suc (count_headers raws)
 abbrev pub samples_text : List RawSample → List ℕ
 samples_text raws = headers_text raws ++ flat_map (λ raw. raw.steps) raws
 
-seen_parts : (count : ℕ) (x : Parts) → PartsFit count x → AllFit count RawSampleFits x.1 × (parts_text x ≡ samples_text x.1) × (map mean_of x.1 ≡ map mean_of x.1)
+seen_parts : (count : ℕ) (x : Parts) → PartsFit count x
+    → AllFit count RawSampleFits x.1 × (parts_text x ≡ samples_text x.1) × (map mean_of x.1 ≡ map mean_of x.1)
 seen_parts count x f =
     let heads = subst (λ (l : List SampleHeader). AllFit count SampleHeaderFits l) (sym f.1.headed) f.0 in (
       record { count = sym (count_headers x.1) ∙ heads.count; each = raws_fit x.1 heads.each f.1.each },
-      ap (λ (l : List SampleHeader). flat_map sample_header_text l ++ flat_map steps_of x.1) (sym f.1.headed) ∙ ap (λ (l : List ℕ). l ++ flat_map steps_of x.1) (same_headers x.1),
+      ap (λ (l : List SampleHeader). flat_map sample_header_text l ++ flat_map steps_of x.1) (sym f.1.headed)
+          ∙ ap (λ (l : List ℕ). l ++ flat_map steps_of x.1) (same_headers x.1),
       refl,
     )
 
-parts_seen : (count : ℕ) (raws : List RawSample) → AllFit count RawSampleFits raws → PartsFit count (map header_of raws, raws) × (samples_text raws ≡ parts_text (map header_of raws, raws)) × (map mean_of raws ≡ map mean_of raws)
+parts_seen : (count : ℕ) (raws : List RawSample) → AllFit count RawSampleFits raws
+    → PartsFit count (map header_of raws, raws) × (samples_text raws ≡ parts_text (map header_of raws, raws))
+        × (map mean_of raws ≡ map mean_of raws)
 parts_seen count raws g = (
   (
     record { count = count_headers raws ∙ g.count; each = heads_fit raws g.each },
@@ -283,11 +355,21 @@ parts_seen count raws g = (
   refl,
 )
 
-all_alike : (number count : ℕ) → Alike (headers_and_samples_at number count) (seen (λ (x : List SampleHeader × List Sample). x.1) (both (times (sample_header_at number) 0 count) samples_at))
+all_alike : (number count : ℕ)
+    → Alike (headers_and_samples_at number count)
+        (seen (λ (x : List SampleHeader × List Sample). x.1) (both (times (sample_header_at number) 0 count) samples_at))
 unfolding headers_and_samples_at
-all_alike number count = next_alike (λ (x : List SampleHeader × List Sample). x.1) (times (sample_header_at number) 0 count) samples_at samples_at (λ headers. seen_same (samples_at headers))
+all_alike number count =
+    next_alike (λ (x : List SampleHeader × List Sample). x.1) (times (sample_header_at number) 0 count) samples_at
+    samples_at (λ headers. seen_same (samples_at headers))
 
-pub samples_of_law : (number count : ℕ) → Spelled (headers_and_samples_at number count) samples_text (AllFit count RawSampleFits) (map mean_of)
-samples_of_law number count = alike_spelled (headers_and_samples_at number count) _ samples_text (AllFit count RawSampleFits) (map mean_of) (all_alike number count) (recast (λ (x : Parts). x.1) (λ raws. (map header_of raws, raws)) _ parts_text (PartsFit count) (λ x. map mean_of x.1) samples_text (AllFit count RawSampleFits) (map mean_of)
-    (seen_spelled (λ (x : List SampleHeader × List Sample). x.1) (both (times (sample_header_at number) 0 count) samples_at) parts_text (PartsFit count) parts_mean (parts_law number count))
+pub samples_of_law : (number count : ℕ)
+    → Spelled (headers_and_samples_at number count) samples_text (AllFit count RawSampleFits) (map mean_of)
+samples_of_law number count =
+    alike_spelled (headers_and_samples_at number count) _ samples_text (AllFit count RawSampleFits) (map mean_of)
+    (all_alike number count) (recast (λ (x : Parts). x.1) (λ raws. (map header_of raws, raws)) _ parts_text
+    (PartsFit count) (λ x. map mean_of x.1) samples_text (AllFit count RawSampleFits) (map mean_of)
+    (seen_spelled (λ (x : List SampleHeader × List Sample). x.1)
+        (both (times (sample_header_at number) 0 count) samples_at) parts_text (PartsFit count) parts_mean
+        (parts_law number count))
     (seen_parts count) (parts_seen count))

@@ -11,15 +11,19 @@ use Rattle.ft_xmread.specs.Pattern.{or_overrun, inside}
 use Rattle.ft_xmread.proofs.Lawful.{Lawful, Alike, both, bind_ok, ok_is, no_text, field_again, field_law}
 
 -- the raw value whose text stood at the front of a place
-pub record Reached {R A : Type 0} (text : R → List ℕ) (Fits : R → Type 0) (means : R → A) (p : Place) (x : A × Place) : Type 0 where
+pub record Reached {R A : Type 0} (text : R → List ℕ) (Fits : R → Type 0) (means : R → A) (p : Place) (x : A × Place) :
+    Type 0 where
   pub raw : R
   pub fits : Fits raw
   pub parts : p.left ≡ text raw ++ x.1.left
   pub value : means raw ≡ x.0
   pub bytes : AreBytes x.1.left
 
-pub record Spelled {R A : Type 0} (one : Reading A) (text : R → List ℕ) (Fits : R → Type 0) (means : R → A) : Type 0 where
-  pub again : (at : ℕ) (raw : R) (rest : List ℕ) → Fits raw → one (record { at = at; left = text raw ++ rest }) ≡ Ok (means raw, record { at = at + length (text raw); left = rest })
+pub record Spelled {R A : Type 0} (one : Reading A) (text : R → List ℕ) (Fits : R → Type 0) (means : R → A) : Type 0
+    where
+  pub again : (at : ℕ) (raw : R) (rest : List ℕ) → Fits raw
+      → one (record { at = at; left = text raw ++ rest })
+          ≡ Ok (means raw, record { at = at + length (text raw); left = rest })
   pub takes : (p : Place) (x : A × Place) → AreBytes p.left → one p ≡ Ok x → Reached text Fits means p x
 
 abbrev pub same : {A : Type 0} → A → A
@@ -27,15 +31,20 @@ same x = x
 
 -- ---- a part that means what it says
 
-pub lawful_spelled : {A : Type 0} (one : Reading A) (t : A → List ℕ) (F : A → Type 0) → Lawful one t F → Spelled one t F same
+pub lawful_spelled : {A : Type 0} (one : Reading A) (t : A → List ℕ) (F : A → Type 0) → Lawful one t F
+    → Spelled one t F same
 lawful_spelled one t F law = record {
   again = λ at x rest fits. law.again at x rest fits;
-  takes = λ p x bytes e. let s = law.takes p x bytes e in record { raw = x.0; fits = s.fits; parts = s.parts; value = refl; bytes = s.bytes };
+  takes =
+      λ p x bytes e.
+      let s = law.takes p x bytes e in
+      record { raw = x.0; fits = s.fits; parts = s.parts; value = refl; bytes = s.bytes };
 }
 
 -- ---- another view
 
-seen_takes : {R A B : Type 0} (view : A → B) (one : Reading A) (t : R → List ℕ) (F : R → Type 0) (m : R → A) → Spelled one t F m
+seen_takes : {R A B : Type 0} (view : A → B) (one : Reading A) (t : R → List ℕ) (F : R → Type 0) (m : R → A)
+    → Spelled one t F m
     → (p : Place) (y : B × Place) → AreBytes p.left → seen view one p ≡ Ok y → Reached t F (λ r. view (m r)) p y
 seen_takes {A = A} {B = B} view one t F m law p y bytes e =
     let a = bind_ok (one p) _ y e in
@@ -44,7 +53,8 @@ seen_takes {A = A} {B = B} view one t F m law p y bytes e =
     subst (λ (z : B × Place). Reached t F (λ r. view (m r)) p z) (ok_is made y a.2)
     (record { raw = s.raw; fits = s.fits; parts = s.parts; value = ap view s.value; bytes = s.bytes })
 
-pub seen_spelled : {R A B : Type 0} (view : A → B) (one : Reading A) (t : R → List ℕ) (F : R → Type 0) (m : R → A) → Spelled one t F m → Spelled (seen view one) t F (λ r. view (m r))
+pub seen_spelled : {R A B : Type 0} (view : A → B) (one : Reading A) (t : R → List ℕ) (F : R → Type 0) (m : R → A)
+    → Spelled one t F m → Spelled (seen view one) t F (λ r. view (m r))
 seen_spelled view one t F m law = record {
   again = λ at r rest fits. rw (law.again at r rest fits) refl;
   takes = λ p y bytes e. seen_takes view one t F m law p y bytes e;
@@ -53,14 +63,18 @@ seen_spelled view one t F m law = record {
 -- ---- another raw value
 
 -- each raw value that fits is one of the other kind, with the same text and meaning
-abbrev pub IsRecast : {R S A : Type 0} → (R → S) → (R → List ℕ) → (R → Type 0) → (R → A) → (S → List ℕ) → (S → Type 0) → (S → A) → Type 0
+abbrev pub IsRecast : {R S A : Type 0} → (R → S) → (R → List ℕ) → (R → Type 0) → (R → A) → (S → List ℕ) → (S → Type 0)
+    → (S → A) → Type 0
 IsRecast {R = R} to t F m u G n = (r : R) → F r → G (to r) × (t r ≡ u (to r)) × (m r ≡ n (to r))
 
 recast_again : {R A : Type 0} (one : Reading A) (t : R → List ℕ) (F : R → Type 0) (m : R → A) → Spelled one t F m
-    → (at : ℕ) (r : R) (text rest : List ℕ) (x : A) → F r → text ≡ t r → x ≡ m r → one (record { at = at; left = text ++ rest }) ≡ Ok (x, record { at = at + length text; left = rest })
+    → (at : ℕ) (r : R) (text rest : List ℕ) (x : A) → F r → text ≡ t r → x ≡ m r
+        → one (record { at = at; left = text ++ rest }) ≡ Ok (x, record { at = at + length text; left = rest })
 recast_again one t F m law at r text rest x fits e f = rw (e, f) (law.again at r rest fits)
 
-pub recast : {R S A : Type 0} (to : R → S) (back : S → R) (one : Reading A) (t : R → List ℕ) (F : R → Type 0) (m : R → A) (u : S → List ℕ) (G : S → Type 0) (n : S → A)
+pub recast :
+    {R S A : Type 0} (to : R → S) (back : S → R) (one : Reading A) (t : R → List ℕ) (F : R → Type 0) (m : R → A)
+        (u : S → List ℕ) (G : S → Type 0) (n : S → A)
     → Spelled one t F m → IsRecast to t F m u G n → IsRecast back u G n t F m → Spelled one u G n
 recast {R = R} {S = S} to back one t F m u G n law there here = record {
   again = λ at s rest fits. let h = here s fits in recast_again one t F m law at (back s) (u s) rest (n s) h.0 h.1 h.2;
@@ -72,16 +86,22 @@ recast {R = R} {S = S} to back one t F m u G n law there here = record {
 
 -- ---- a part and another
 
-both_again : {R S A B : Type 0} (one : Reading A) (other : A → Reading B) (t : R → List ℕ) (u : R → S → List ℕ) (F : R → Type 0) (G : R → S → Type 0) (m : R → A) (n : R → S → B)
+both_again :
+    {R S A B : Type 0} (one : Reading A) (other : A → Reading B) (t : R → List ℕ) (u : R → S → List ℕ) (F : R → Type 0)
+        (G : R → S → Type 0) (m : R → A) (n : R → S → B)
     → Spelled one t F m → ((r : R) → F r → Spelled (other (m r)) (u r) (G r) (n r))
     → (at : ℕ) (r : R) (s : S) (rest : List ℕ) → F r → G r s
-    → both one other (record { at = at; left = (t r ++ u r s) ++ rest }) ≡ Ok ((m r, n r s), record { at = at + length (t r ++ u r s); left = rest })
+    → both one other (record { at = at; left = (t r ++ u r s) ++ rest })
+        ≡ Ok ((m r, n r s), record { at = at + length (t r ++ u r s); left = rest })
 both_again one other t u F G m n law laws at r s rest f g =
-    let k : at + length (t r ++ u r s) ≡ at + length (t r) + length (u r s) = omega (arith, length-append (t r) (u r s)) in
+    let k : at + length (t r ++ u r s) ≡ at + length (t r) + length (u r s) =
+        omega (arith, length-append (t r) (u r s)) in
     ap (λ (left : List ℕ). both one other (record { at = at; left = left })) (append_assoc (t r) (u r s) rest)
     ∙ rw (law.again at r (u r s ++ rest) f, (laws r f).again (at + length (t r)) s rest g, k) refl
 
-both_takes : {R S A B : Type 0} (one : Reading A) (other : A → Reading B) (t : R → List ℕ) (u : R → S → List ℕ) (F : R → Type 0) (G : R → S → Type 0) (m : R → A) (n : R → S → B)
+both_takes :
+    {R S A B : Type 0} (one : Reading A) (other : A → Reading B) (t : R → List ℕ) (u : R → S → List ℕ) (F : R → Type 0)
+        (G : R → S → Type 0) (m : R → A) (n : R → S → B)
     → Spelled one t F m → ((r : R) → F r → Spelled (other (m r)) (u r) (G r) (n r))
     → (p : Place) (x : (A × B) × Place) → AreBytes p.left → both one other p ≡ Ok x
     → Reached (λ (y : R × S). t y.0 ++ u y.0 y.1) (λ y. F y.0 × G y.0 y.1) (λ y. (m y.0, n y.0 y.1)) p x
@@ -92,17 +112,24 @@ both_takes {R = R} {S = S} {A = A} {B = B} one other t u F G m n law laws p x by
     let moved : other (m s.raw) a.0.1 ≡ Ok b.0 = ap (λ (v : A). other v a.0.1) s.value ∙ b.1 in
     let r = (laws s.raw s.fits).takes a.0.1 b.0 s.bytes moved in
     let made : (A × B) × Place = ((a.0.0, b.0.0), b.0.1) in
-    let left : (m s.raw, n s.raw r.raw) ≡ (a.0.0, b.0.0) = ap (λ (v : A). (v, n s.raw r.raw)) s.value ∙ ap (λ (v : B). (a.0.0, v)) r.value in
-    subst (λ (y : (A × B) × Place). Reached (λ (z : R × S). t z.0 ++ u z.0 z.1) (λ z. F z.0 × G z.0 z.1) (λ z. (m z.0, n z.0 z.1)) p y) (ok_is made x b.2)
+    let left : (m s.raw, n s.raw r.raw) ≡ (a.0.0, b.0.0) =
+        ap (λ (v : A). (v, n s.raw r.raw)) s.value ∙ ap (λ (v : B). (a.0.0, v)) r.value in
+    subst
+        (λ (y : (A × B) × Place).
+            Reached (λ (z : R × S). t z.0 ++ u z.0 z.1) (λ z. F z.0 × G z.0 z.1) (λ z. (m z.0, n z.0 z.1)) p y)
+        (ok_is made x b.2)
     (record {
       raw = (s.raw, r.raw);
       fits = (s.fits, r.fits);
-      parts = s.parts ∙ ap (λ (l : List ℕ). t s.raw ++ l) r.parts ∙ sym (append_assoc (t s.raw) (u s.raw r.raw) b.0.1.left);
+      parts =
+          s.parts ∙ ap (λ (l : List ℕ). t s.raw ++ l) r.parts ∙ sym (append_assoc (t s.raw) (u s.raw r.raw) b.0.1.left);
       value = left;
       bytes = r.bytes;
     })
 
-pub both_spelled : {R S A B : Type 0} (one : Reading A) (other : A → Reading B) (t : R → List ℕ) (u : R → S → List ℕ) (F : R → Type 0) (G : R → S → Type 0) (m : R → A) (n : R → S → B)
+pub both_spelled :
+    {R S A B : Type 0} (one : Reading A) (other : A → Reading B) (t : R → List ℕ) (u : R → S → List ℕ) (F : R → Type 0)
+        (G : R → S → Type 0) (m : R → A) (n : R → S → B)
     → Spelled one t F m → ((r : R) → F r → Spelled (other (m r)) (u r) (G r) (n r))
     → Spelled (both one other) (λ (y : R × S). t y.0 ++ u y.0 y.1) (λ y. F y.0 × G y.0 y.1) (λ y. (m y.0, n y.0 y.1))
 both_spelled one other t u F G m n law laws = record {
@@ -111,14 +138,18 @@ both_spelled one other t u F G m n law laws = record {
 }
 
 -- two parts of which neither depends on the other
-pub pair_spelled : {R S A B : Type 0} (one : Reading A) (other : Reading B) (t : R → List ℕ) (u : S → List ℕ) (F : R → Type 0) (G : S → Type 0) (m : R → A) (n : S → B)
+pub pair_spelled :
+    {R S A B : Type 0} (one : Reading A) (other : Reading B) (t : R → List ℕ) (u : S → List ℕ) (F : R → Type 0)
+        (G : S → Type 0) (m : R → A) (n : S → B)
     → Spelled one t F m → Spelled other u G n
     → Spelled (both one (λ _. other)) (λ (y : R × S). t y.0 ++ u y.1) (λ y. F y.0 × G y.1) (λ y. (m y.0, n y.1))
-pair_spelled one other t u F G m n law more = both_spelled one (λ _. other) t (λ _ s. u s) F (λ _ s. G s) m (λ _ s. n s) law (λ _ _. more)
+pair_spelled one other t u F G m n law more =
+    both_spelled one (λ _. other) t (λ _ s. u s) F (λ _ s. G s) m (λ _ s. n s) law (λ _ _. more)
 
 -- ---- a part of a piece
 
-within_takes : {R A : Type 0} (k : ℕ) (one : Reading A) (t : R → List ℕ) (F : R → Type 0) (m : R → A) → Spelled one t F m
+within_takes : {R A : Type 0} (k : ℕ) (one : Reading A) (t : R → List ℕ) (F : R → Type 0) (m : R → A)
+    → Spelled one t F m
     → (p : Place) (x : (A × List ℕ) × Place) → AreBytes p.left → in_piece k one p ≡ Ok x
     → Reached (λ (y : R × List ℕ). t y.0 ++ y.1) (FitsWithin k t F) (λ y. (m y.0, y.1)) p x
 unfolding piece_at
@@ -129,10 +160,14 @@ within_takes {R = R} {A = A} k one t F m law p x bytes e =
     let inner : Place = record { at = p.at; left = f.0.0 } in
     let piece : Place × Place = (inner, f.0.1) in
     let same_piece = ok_is piece g.0 f.2 in
-    let a = bind_ok (one inner) _ x (subst (λ (y : Place × Place). (one y.0 >>= λ z. Ok ((z.0, z.1.left), y.1)) ≡ Ok x) (sym same_piece) g.2) in
+    let a =
+        bind_ok (one inner) _ x
+        (subst (λ (y : Place × Place). (one y.0 >>= λ z. Ok ((z.0, z.1.left), y.1)) ≡ Ok x) (sym same_piece) g.2) in
     let r = law.takes inner a.0 s.fits.1 a.1 in
     let made : (A × List ℕ) × Place = ((a.0.0, a.0.1.left), f.0.1) in
-    subst (λ (y : (A × List ℕ) × Place). Reached (λ (z : R × List ℕ). t z.0 ++ z.1) (FitsWithin k t F) (λ z. (m z.0, z.1)) p y) (ok_is made x a.2)
+    subst
+        (λ (y : (A × List ℕ) × Place).
+            Reached (λ (z : R × List ℕ). t z.0 ++ z.1) (FitsWithin k t F) (λ z. (m z.0, z.1)) p y) (ok_is made x a.2)
     (record {
       raw = (r.raw, a.0.1.left);
       fits = record { fits = r.fits; whole = sym (ap length r.parts) ∙ s.fits.0; bytes = r.bytes };
@@ -141,7 +176,8 @@ within_takes {R = R} {A = A} k one t F m law p x bytes e =
       bytes = s.bytes;
     })
 
-pub within_spelled : {R A : Type 0} (k : ℕ) (one : Reading A) (t : R → List ℕ) (F : R → Type 0) (m : R → A) → Spelled one t F m
+pub within_spelled : {R A : Type 0} (k : ℕ) (one : Reading A) (t : R → List ℕ) (F : R → Type 0) (m : R → A)
+    → Spelled one t F m
     → Spelled (in_piece k one) (λ (y : R × List ℕ). t y.0 ++ y.1) (FitsWithin k t F) (λ y. (m y.0, y.1))
 unfolding piece_at
 within_spelled k one t F m law = record {
@@ -155,7 +191,8 @@ inside_ok : {A : Type 0} (pattern at : ℕ) (r : Result A XmFault) (x : A) → o
 inside_ok pattern at (Ok y) x e = e
 inside_ok pattern at (Err f) x e = absurd cc
 
-pub inside_spelled : {R A : Type 0} (pattern : ℕ) (one : Reading A) (t : R → List ℕ) (F : R → Type 0) (m : R → A) → Spelled one t F m → Spelled (inside pattern one) t F m
+pub inside_spelled : {R A : Type 0} (pattern : ℕ) (one : Reading A) (t : R → List ℕ) (F : R → Type 0) (m : R → A)
+    → Spelled one t F m → Spelled (inside pattern one) t F m
 inside_spelled pattern one t F m law = record {
   again = λ at r rest fits. rw (law.again at r rest fits) refl;
   takes = λ p x bytes e. law.takes p x bytes (inside_ok pattern p.at _ x e);
@@ -163,18 +200,26 @@ inside_spelled pattern one t F m law = record {
 
 -- ---- a part many times
 
-times_again : {R A : Type 0} (one : ℕ → Reading A) (t : R → List ℕ) (F : R → Type 0) (m : R → A) → ((k : ℕ) → Spelled (one k) t F m)
+times_again : {R A : Type 0} (one : ℕ → Reading A) (t : R → List ℕ) (F : R → Type 0) (m : R → A)
+    → ((k : ℕ) → Spelled (one k) t F m)
     → (first at : ℕ) (rs : List R) (rest : List ℕ) → All F rs
-    → times one first (length rs) (record { at = at; left = flat_map t rs ++ rest }) ≡ Ok (map m rs, record { at = at + length (flat_map t rs); left = rest })
+    → times one first (length rs) (record { at = at; left = flat_map t rs ++ rest })
+        ≡ Ok (map m rs, record { at = at + length (flat_map t rs); left = rest })
 unfolding times
 times_again one t F m law first at [] rest all = rw (no_text at) refl
 times_again one t F m law first at (r ∷ rs) rest all =
-    let n : at + length (t r ++ flat_map t rs) ≡ at + length (t r) + length (flat_map t rs) = omega (arith, length-append (t r) (flat_map t rs)) in
-    ap (λ (left : List ℕ). times one first (suc (length rs)) (record { at = at; left = left })) (append_assoc (t r) (flat_map t rs) rest)
-    ∙ rw ((law first).again at r (flat_map t rs ++ rest) (All-head F r rs all), times_again one t F m law (suc first) (at + length (t r)) rs rest (All-tail F r rs all), n) refl
+    let n : at + length (t r ++ flat_map t rs) ≡ at + length (t r) + length (flat_map t rs) =
+        omega (arith, length-append (t r) (flat_map t rs)) in
+    ap (λ (left : List ℕ). times one first (suc (length rs)) (record { at = at; left = left }))
+        (append_assoc (t r) (flat_map t rs) rest)
+    ∙ rw
+        ((law first).again at r (flat_map t rs ++ rest) (All-head F r rs all), times_again one t F m law (suc first)
+            (at + length (t r)) rs rest (All-tail F r rs all), n) refl
 
-times_takes : {R A : Type 0} (one : ℕ → Reading A) (t : R → List ℕ) (F : R → Type 0) (m : R → A) → ((k : ℕ) → Spelled (one k) t F m)
-    → (first n : ℕ) (p : Place) (x : List A × Place) → AreBytes p.left → times one first n p ≡ Ok x → Reached (flat_map t) (AllFit n F) (map m) p x
+times_takes : {R A : Type 0} (one : ℕ → Reading A) (t : R → List ℕ) (F : R → Type 0) (m : R → A)
+    → ((k : ℕ) → Spelled (one k) t F m)
+    → (first n : ℕ) (p : Place) (x : List A × Place) → AreBytes p.left → times one first n p ≡ Ok x
+        → Reached (flat_map t) (AllFit n F) (map m) p x
 unfolding times
 times_takes {A = A} one t F m law first zero p x bytes e =
     let made : List A × Place = ([], p) in
@@ -190,21 +235,31 @@ times_takes {A = A} one t F m law first (suc n) p x bytes e =
     (record {
       raw = s.raw ∷ r.raw;
       fits = record { count = ap suc r.fits.count; each = All-cons F s.raw r.raw s.fits r.fits.each };
-      parts = s.parts ∙ ap (λ (l : List ℕ). t s.raw ++ l) r.parts ∙ sym (append_assoc (t s.raw) (flat_map t r.raw) b.0.1.left);
+      parts =
+          s.parts ∙ ap (λ (l : List ℕ). t s.raw ++ l) r.parts
+          ∙ sym (append_assoc (t s.raw) (flat_map t r.raw) b.0.1.left);
       value = ap (λ (v : A). v ∷ map m r.raw) s.value ∙ ap (λ (l : List A). a.0.0 ∷ l) r.value;
       bytes = r.bytes;
     })
 
-pub times_spelled : {R A : Type 0} (one : ℕ → Reading A) (t : R → List ℕ) (F : R → Type 0) (m : R → A) → ((k : ℕ) → Spelled (one k) t F m)
+pub times_spelled : {R A : Type 0} (one : ℕ → Reading A) (t : R → List ℕ) (F : R → Type 0) (m : R → A)
+    → ((k : ℕ) → Spelled (one k) t F m)
     → (first n : ℕ) → Spelled (times one first n) (flat_map t) (AllFit n F) (map m)
 times_spelled {A = A} one t F m law first n = record {
-  again = λ at rs rest fits. subst (λ (k : ℕ). times one first k (record { at = at; left = flat_map t rs ++ rest }) ≡ Ok (map m rs, record { at = at + length (flat_map t rs); left = rest })) fits.count (times_again one t F m law first at rs rest fits.each);
+  again =
+      λ at rs rest fits.
+      subst
+      (λ (k : ℕ).
+          times one first k (record { at = at; left = flat_map t rs ++ rest })
+          ≡ Ok (map m rs, record { at = at + length (flat_map t rs); left = rest })) fits.count
+      (times_again one t F m law first at rs rest fits.each);
   takes = λ p x bytes e. times_takes one t F m law first n p x bytes e;
 }
 
 -- ---- a part that answers alike
 
-pub alike_spelled : {R A : Type 0} (one other : Reading A) (t : R → List ℕ) (F : R → Type 0) (m : R → A) → Alike one other → Spelled other t F m → Spelled one t F m
+pub alike_spelled : {R A : Type 0} (one other : Reading A) (t : R → List ℕ) (F : R → Type 0) (m : R → A)
+    → Alike one other → Spelled other t F m → Spelled one t F m
 alike_spelled one other t F m same law = record {
   again = λ at r rest fits. same (record { at = at; left = t r ++ rest }) ∙ law.again at r rest fits;
   takes = λ p x bytes e. law.takes p x bytes (sym (same p) ∙ e);

@@ -20,7 +20,8 @@ titles_at = do
 
 -- only one version is known
 abbrev pub version_at : Reading ℕ
-version_at = checked (λ version. not (version == KNOWN)) (λ _ version. Version version) (number_at 2)
+version_at =
+    checked (λ version. not (version == KNOWN)) (λ _ version. Version version) (number_at 2)
 
 -- the header's size counts from its own field on, and its order table has at least a byte
 abbrev pub size_at : Reading ℕ

@@ -1,5 +1,5 @@
--- A part that is made of parts, one after the other, in `do` form: each is read where the one before
--- it ended, and the first fault is that of the whole.
+-- A part that is made of parts, one after the other, in `do` form: each is read where the one
+-- before it ended, and the first fault is that of the whole.
 use Rattle.ft_xmread.specs.Reader.{Reading, and_then}
 
 infixl 10 ◌>>=◌

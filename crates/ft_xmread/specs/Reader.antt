@@ -89,6 +89,7 @@ abbrev pub Fails : {Y : Type 0} → XmFault → Result Y XmFault → Type 0
 Fails NoMemory read = Unit {0}
 Fails f read = read ≡ Err f
 
-abbrev pub Reads : {X Y : Type 0} → (X → Y) → Result X XmFault → Place → Result (Y × Place) XmFault → Type 0
+abbrev pub Reads : {X Y : Type 0} → (X → Y) → Result X XmFault → Place → Result (Y × Place) XmFault
+    → Type 0
 Reads view (Ok x) next read = read ≡ Ok (view x, next)
 Reads view (Err e) next read = Fails e read

@@ -9,7 +9,8 @@ pub record IsFront {A : Type 0} (one : ℕ → A × ℕ) (all : List A × ℕ) (
   pub values : front ++ (drawn left one state).0 ≡ all.0
   pub behind : (drawn left one state).1 ≡ all.1
 
-pub goes_on : {A : Type 0} (one : ℕ → A × ℕ) (all : List A × ℕ) (front : List A) (count i state : ℕ) (value : A) (after : ℕ) → i < count → value ≡ (one state).0 → after ≡ (one state).1
+pub goes_on : {A : Type 0} (one : ℕ → A × ℕ) (all : List A × ℕ) (front : List A) (count i state : ℕ) (value : A)
+    (after : ℕ) → i < count → value ≡ (one state).0 → after ≡ (one state).1
     → IsFront one all front (count - i) state → IsFront one all (front ++ value ∷ []) (count - (i + 1)) after
 unfolding drawn
 goes_on {A = A} one all front count i state value after lt e f so_far =
@@ -17,7 +18,8 @@ goes_on {A = A} one all front count i state value after lt e f so_far =
     let so_far = rw k at so_far in
     rw (e, f) (record { values = append_assoc front ((one state).0 ∷ []) _ ∙ so_far.values; behind = so_far.behind })
 
-pub is_done : {A : Type 0} (one : ℕ → A × ℕ) (all : List A × ℕ) (front : List A) (count i state : ℕ) → count ≤ i → IsFront one all front (count - i) state → (front ≡ all.0) × (state ≡ all.1)
+pub is_done : {A : Type 0} (one : ℕ → A × ℕ) (all : List A × ℕ) (front : List A) (count i state : ℕ) → count ≤ i
+    → IsFront one all front (count - i) state → (front ≡ all.0) × (state ≡ all.1)
 unfolding drawn
 is_done one all front count i state le so_far =
     let k : count - i ≡ 0 = omega arith in

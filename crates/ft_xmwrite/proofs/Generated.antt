@@ -20,10 +20,12 @@ length-drawn one zero x = refl
 length-drawn one (suc n) x = ap suc (length-drawn one n (one x).1)
 
 -- what holds of each value that can be drawn holds of each that is
-all_drawn : {A : Type 0} (P : A → Type 0) (one : ℕ → A × ℕ) (n x : ℕ) → ((y : ℕ) → P (one y).0) → All P (drawn n one x).0
+all_drawn : {A : Type 0} (P : A → Type 0) (one : ℕ → A × ℕ) (n x : ℕ) → ((y : ℕ) → P (one y).0)
+    → All P (drawn n one x).0
 unfolding drawn
 all_drawn P one zero x each = All-nil P
-all_drawn P one (suc n) x each = All-cons P (one x).0 (drawn n one (one x).1).0 (each x) (all_drawn P one n (one x).1 each)
+all_drawn P one (suc n) x each =
+    All-cons P (one x).0 (drawn n one (one x).1).0 (each x) (all_drawn P one n (one x).1 each)
 
 draw_low : (n x : ℕ) → 0 < n → (draw n x).0 < n
 unfolding draw
@@ -57,7 +59,14 @@ note_valid x =
     }
 
 empty_valid : IsValidCell EMPTY_CELL
-empty_valid = record { note = omega arith; instrument = omega arith; volume = omega arith; effect = omega arith; parameter = omega arith }
+empty_valid =
+    record {
+      note = omega arith;
+      instrument = omega arith;
+      volume = omega arith;
+      effect = omega arith;
+      parameter = omega arith;
+    }
 
 either_valid : (some : Bool) (x : ℕ) → IsValidCell (cond some (drawn_note x) (EMPTY_CELL, x)).0
 either_valid true x = note_valid x

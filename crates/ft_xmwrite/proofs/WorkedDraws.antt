@@ -8,7 +8,8 @@ draw_of_seven : draw 4 7 ≡ (0, 1025555898)
 unfolding draw next
 draw_of_seven = refl
 
-cell_of_seven : drawn_cell 7 ≡ (record { note = 35; instrument = 13; volume = 56; effect = 1; parameter = 20 }, 3675562389)
+cell_of_seven :
+    drawn_cell 7 ≡ (record { note = 35; instrument = 13; volume = 56; effect = 1; parameter = 20 }, 3675562389)
 unfolding drawn_cell drawn_note draw next
 cell_of_seven = refl
 

@@ -1,5 +1,5 @@
--- The generated song of a number. Its notes, pannings and frames are drawn one after the other, from
--- a state that begins as the number.
+-- The generated song of a number. Its notes, pannings and frames are drawn one after the other,
+-- from a state that begins as the number.
 use Rattle.std.specs.Prelude.{ℕ, zero, suc, ◌+◌, ◌*◌, ◌/◌, ◌%◌, ◌^◌, ◌-ℤ◌, ℤ, pos, true, List, [], ◌∷◌, ◌++◌, replicate, get_or, ◌==◌, if◌then◌else◌, codes}
 use Rattle.std.specs.List.{range_with_len}
 use Rattle.ft_types.specs.declared.module.Module.{Module}

@@ -4,4 +4,5 @@ use Rattle.ft_check.specs.Blocks.{block_changed}
 use Rattle.ft_check.proofs.block.change_all.Given as goal
 
 abbrev pub invariant-loop-cell : goal.invariant-loop-cell
-invariant-loop-cell l = l.cells ≡ map (block_changed l.how) (take l.cell-index l.fn.cells) ++ drop l.cell-index l.fn.cells
+invariant-loop-cell l =
+    l.cells ≡ map (block_changed l.how) (take l.cell-index l.fn.cells) ++ drop l.cell-index l.fn.cells

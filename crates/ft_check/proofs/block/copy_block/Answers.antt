@@ -15,7 +15,8 @@ paste_block-requires-clause-whole c =
     let long = block_long song c.args.p c.args.r block.h f.0 c.requires.valid f.1 c.requires.from.1 in
     let rows : c.as_slice.result.now ≡ take (block.h * song.channels) (drop (c.args.r * song.channels) f.0.cells) =
     c.as_slice.ensures.value ∙ c.in_ok-source.ensures
-    ∙ ap (λ (it : Option Pattern). take (block.h * song.channels) (drop (c.args.r * song.channels) (cells_in it))) f.1 in
+    ∙ ap (λ (it : Option Pattern). take (block.h * song.channels) (drop (c.args.r * song.channels) (cells_in it))) f.1
+        in
     omega (
       arith,
       ap length rows,
@@ -31,9 +32,13 @@ returns-clause-ok c =
     let f = is_there song.patterns c.args.p c.requires.from.0 in
     let rows : c.as_slice.result.now ≡ take (block.h * song.channels) (drop (c.args.r * song.channels) f.0.cells) =
     c.as_slice.ensures.value ∙ c.in_ok-source.ensures
-    ∙ ap (λ (it : Option Pattern). take (block.h * song.channels) (drop (c.args.r * song.channels) (cells_in it))) f.1 in
-    let there : c.args.r + block.h ≤ f.0.rows = subst (λ (it : Option Pattern). c.args.r + block.h ≤ rows_in it) f.1 c.requires.from.1 in
+    ∙ ap (λ (it : Option Pattern). take (block.h * song.channels) (drop (c.args.r * song.channels) (cells_in it))) f.1
+        in
+    let there : c.args.r + block.h ≤ f.0.rows =
+        subst (λ (it : Option Pattern). c.args.r + block.h ≤ rows_in it) f.1 c.requires.from.1 in
     c.paste_block.ensures
-    ∙ block_same song c.args.q block.r block.c block.h block.w (from_rows song.channels c.as_slice.result.now c.args.c block.r block.c)
+    ∙ block_same song c.args.q block.r block.c block.h block.w
+        (from_rows song.channels c.as_slice.result.now c.args.c block.r block.c)
     (λ row channel cell. copied song c.args.p c.args.r c.args.c block.r block.c row channel)
-    (copied_same song c.args.p c.args.r c.args.c block.r block.c block.h block.w f.0 c.as_slice.result.now f.1 there c.requires.from.2 rows)
+    (copied_same song c.args.p c.args.r c.args.c block.r block.c block.h block.w f.0 c.as_slice.result.now f.1 there
+        c.requires.from.2 rows)

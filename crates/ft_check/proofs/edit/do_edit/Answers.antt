@@ -16,7 +16,10 @@ returns-in-Transpose-clause-ok c =
     let x = c.in-Transpose in
     let fits : FitsSigned w8 x.d = search rules in
     c.change_block-in-Transpose.ensures
-    ∙ ap (λ d. with_pattern x.p (with_block c.args.m.now.channels x.r x.c x.h x.w (λ row channel cell. moved d cell)) c.args.m.now) (to_z-of_z w8 x.d fits)
+    ∙ ap
+        (λ d.
+            with_pattern x.p (with_block c.args.m.now.channels x.r x.c x.h x.w (λ row channel cell. moved d cell))
+            c.args.m.now) (to_z-of_z w8 x.d fits)
     ∙ ap (edited c.args.m.now) (sym x.is)
 
 pub returns-in-Smpname-clause-ok : goal.returns-in-Smpname-clause-ok
@@ -28,8 +31,10 @@ returns-in-Smp-clause-ok c =
     let fine : FitsSigned w8 x.fine = search rules in
     let rel : FitsSigned w8 x.rel = search rules in
     c.change_sample-in-Smp.ensures
-    ∙ ap (λ z. with_sample x.i x.s (sample_changed (samples.Head x.vol z (to_z w8 (of_z w8 x.rel)) x.pan)) c.args.m.now) (to_z-of_z w8 x.fine fine)
-    ∙ ap (λ z. with_sample x.i x.s (sample_changed (samples.Head x.vol x.fine z x.pan)) c.args.m.now) (to_z-of_z w8 x.rel rel)
+    ∙ ap (λ z. with_sample x.i x.s (sample_changed (samples.Head x.vol z (to_z w8 (of_z w8 x.rel)) x.pan)) c.args.m.now)
+        (to_z-of_z w8 x.fine fine)
+    ∙ ap (λ z. with_sample x.i x.s (sample_changed (samples.Head x.vol x.fine z x.pan)) c.args.m.now)
+        (to_z-of_z w8 x.rel rel)
     ∙ ap (edited c.args.m.now) (sym x.is)
 
 pub returns-in-Loop-clause-ok : goal.returns-in-Loop-clause-ok
@@ -46,7 +51,8 @@ returns-in-Scale-clause-ok c =
     let x = c.in-Scale in
     let fits : FitsSigned w16 x.n = search rules in
     c.change_sample-in-Scale.ensures
-    ∙ ap (λ z. with_sample x.i x.s (sample_changed (samples.Scale x.from x.to z x.d)) c.args.m.now) (to_z-of_z w16 x.n fits)
+    ∙ ap (λ z. with_sample x.i x.s (sample_changed (samples.Scale x.from x.to z x.d)) c.args.m.now)
+        (to_z-of_z w16 x.n fits)
     ∙ ap (edited c.args.m.now) (sym x.is)
 
 pub returns-in-Bits-clause-ok : goal.returns-in-Bits-clause-ok

@@ -8,7 +8,8 @@ use Rattle.ft_mix.proofs.block.add_voices.Given as goal
 
 abbrev pub invariant-loop-voice : goal.invariant-loop-voice
 invariant-loop-voice g l = record {
-  sums : (w : g.row.V-World.Denot) → g.V.SongView.shows l.view w → g.V.SongView.shows l.fn.view w × (g.V.SongView.shown l.view w ≡ g.V.SongView.shown l.fn.view w)
+  sums : (w : g.row.V-World.Denot) → g.V.SongView.shows l.view w
+      → g.V.SongView.shows l.fn.view w × (g.V.SongView.shown l.view w ≡ g.V.SongView.shown l.fn.view w)
       × ((k : ℕ) → k < length l.fn.left
       → ((get_or l.left k (pos 0) +ℤ sound.voices_sum (sound.left_of (l.first + k)) (g.V.SongView.shown l.fn.view w).kept (drop l.voice-index l.voices))
       ≡ sound.voices_sum (sound.left_of (l.first + k)) (g.V.SongView.shown l.fn.view w).kept l.voices)

@@ -29,23 +29,32 @@ loop-line-preserved g c =
           let owned = get_or (g.V.SongView.shown c.args.view.now w).kept channel None in
           let v : ℕ → ℤ = λ n. value_in head owned (place_of head n) in
           let on = c.loop-line.invariant.next in
-          let second : c.value_of-second.result ≡ value_in head owned (place_of head (next + 1)) = a.2 ∙ ap (λ (s : Shown). value_in head (get_or s.kept channel None) (place_of head (next + 1))) b.1 in (
+          let second : c.value_of-second.result ≡ value_in head owned (place_of head (next + 1)) =
+              a.2 ∙ ap (λ (s : Shown). value_in head (get_or s.kept channel None) (place_of head (next + 1))) b.1 in
+              (
             b.0,
             a.1 ∙ b.1,
             back ∙ second,
             more (λ (j : ℕ) (line : Line). IsLine head owned (c.args.at + j) line) c.loop-line.lines i _ flat within b.3
                 (record {
                   first = c.line_between.ensures.first ∙ b.2 ∙ ap v on;
-                  rise = c.line_between.ensures.rise ∙ ap (λ (z : ℤ). z -ℤ first) (back ∙ second) ∙ ap (λ (z : ℤ). v (next + 1) -ℤ z) b.2 ∙ ap (λ (n : ℕ). v (n + 1) -ℤ v n) on;
+                  rise =
+                      c.line_between.ensures.rise ∙ ap (λ (z : ℤ). z -ℤ first) (back ∙ second)
+                      ∙ ap (λ (z : ℤ). v (next + 1) -ℤ z) b.2 ∙ ap (λ (n : ℕ). v (n + 1) -ℤ v n) on;
                 }),
           );
       first = subst (FitsSigned w16) (sym back) narrow;
-      range = more (λ (j : ℕ) (line : Line). IsLineInRange line) c.loop-line.lines i _ flat within c.loop-line.invariant.range
+      range = more (λ (j : ℕ) (line : Line). IsLineInRange line) c.loop-line.lines i _ flat within
+          c.loop-line.invariant.range
           c.line_between.ensures.range;
       holds = c.value_of-second.ensures.holds ∙ c.loop-line.invariant.holds;
       keeps = λ k h s. c.value_of-second.ensures.keeps k h (c.loop-line.invariant.keeps k h s);
       work = omega arith;
-      cost = λ none. goes_on head c.args.at next (g.V.SongView.work c.args.view.now) _ _ _ _ none (omega arith) (c.loop-line.invariant.newest none) (c.loop-line.invariant.cost none) c.value_of-second.ensures.asks c.value_of-second.ensures.rests;
+      cost =
+          λ none.
+          goes_on head c.args.at next (g.V.SongView.work c.args.view.now) _ _ _ _ none (omega arith)
+          (c.loop-line.invariant.newest none) (c.loop-line.invariant.cost none) c.value_of-second.ensures.asks
+          c.value_of-second.ensures.rests;
       newest = λ none. newest_is head (next + 1) _ _ _ _ none c.value_of-second.ensures.asks;
       same = g.met.V.SongView.same_through _ _ _ c.loop-line.invariant.same c.value_of-second.ensures.same;
     }
@@ -63,7 +72,8 @@ loop-line-init g c = record {
   holds = c.value_of-first.ensures.holds;
   keeps = c.value_of-first.ensures.keeps;
   work = omega arith;
-  cost = λ none. begins c.args.head.now c.args.at _ _ _ _ none c.value_of-first.ensures.asks c.value_of-first.ensures.rests;
+  cost =
+      λ none. begins c.args.head.now c.args.at _ _ _ _ none c.value_of-first.ensures.asks c.value_of-first.ensures.rests;
   newest = λ none. newest_is c.args.head.now c.args.at _ _ _ _ none c.value_of-first.ensures.asks;
   same = c.value_of-first.ensures.same;
 }

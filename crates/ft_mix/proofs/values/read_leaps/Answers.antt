@@ -24,13 +24,21 @@ loop-value-preserved g c =
           let a = c.read_line-line.ensures.line w is in
           let b = c.loop-value.invariant.values w a.0 in
           let owned = get_or (g.V.SongView.shown c.args.view.now w).kept voice.channel None in
-          let line : IsLine voice.head owned (place / 2 ^ 32) c.read_line-line.result = subst (λ (s : Shown). IsLine voice.head (get_or s.kept voice.channel None) (place / 2 ^ 32) c.read_line-line.result) b.1 a.2 in (
+          let line : IsLine voice.head owned (place / 2 ^ 32) c.read_line-line.result =
+              subst
+              (λ (s : Shown).
+                  IsLine voice.head (get_or s.kept voice.channel None) (place / 2 ^ 32) c.read_line-line.result) b.1 a.2
+              in
+              (
             b.0,
             a.1 ∙ b.1,
-            more (λ (k : ℕ) (x : ℤ). x ≡ value_at voice.head owned (c.args.position + k * voice.step)) c.loop-value.values i _ (pos 0) within b.2
+            more (λ (k : ℕ) (x : ℤ). x ≡ value_at voice.head owned (c.args.position + k * voice.step))
+                c.loop-value.values i _ (pos 0) within b.2
                 (back ∙ c.value_on.ensures.value voice.head owned place line refl ∙ ap (value_at voice.head owned) on),
           );
-      range = more (λ (k : ℕ) (x : ℤ). FitsSigned w16 x) c.loop-value.values i _ (pos 0) within c.loop-value.invariant.range (subst (FitsSigned w16) (sym back) narrow);
+      range =
+          more (λ (k : ℕ) (x : ℤ). FitsSigned w16 x) c.loop-value.values i _ (pos 0) within c.loop-value.invariant.range
+          (subst (FitsSigned w16) (sym back) narrow);
       holds = c.read_line-line.ensures.holds ∙ c.loop-value.invariant.holds;
       keeps = λ k h s. c.read_line-line.ensures.keeps k h (c.loop-value.invariant.keeps k h s);
       work = omega arith;

@@ -7,8 +7,10 @@ use Rattle.ft_mix.proofs.values.read_leaps.Given as goal
 abbrev pub invariant-loop-value : goal.invariant-loop-value
 invariant-loop-value g l = record {
   place : l.place ≡ l.position + l.value-index * l.voice.step;
-  values : (w : g.row.V-World.Denot) → g.V.SongView.shows l.view w → g.V.SongView.shows l.fn.view w × (g.V.SongView.shown l.view w ≡ g.V.SongView.shown l.fn.view w)
-      × mixing.AreValues l.voice.head (get_or (g.V.SongView.shown l.fn.view w).kept l.voice.channel None) l.position l.voice.step l.value-index l.values;
+  values : (w : g.row.V-World.Denot) → g.V.SongView.shows l.view w
+      → g.V.SongView.shows l.fn.view w × (g.V.SongView.shown l.view w ≡ g.V.SongView.shown l.fn.view w)
+      × mixing.AreValues l.voice.head (get_or (g.V.SongView.shown l.fn.view w).kept l.voice.channel None) l.position
+          l.voice.step l.value-index l.values;
   range : mixing.Fit16 l.value-index l.values;
   holds : g.V.SongView.holds l.view ≡ g.V.SongView.holds l.fn.view;
   keeps : (c : ℕ) (h : SampleHead) → g.V.SongView.keeps l.fn.view c h → g.V.SongView.keeps l.view c h;

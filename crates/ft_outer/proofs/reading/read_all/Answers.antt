@@ -6,7 +6,8 @@ use Rattle.ft_outer.proofs.reading.read_all.Goals as goal
 pub returns-then-count-eq0-clause-whole : goal.returns-then-count-eq0-clause-whole
 returns-then-count-eq0-clause-whole g c =
     let read = c.in_ok-count.ensures.bytes in
-    GivesAll-end _ _ _ c.in_ok-count.count c.loop-bytes.bytes.items c.read.new.buf c.loop-bytes.invariant.gave.consumed read.0
+    GivesAll-end _ _ _ c.in_ok-count.count c.loop-bytes.bytes.items c.read.new.buf c.loop-bytes.invariant.gave.consumed
+        read.0
     c.if-count-eq0.true (read.1 c.if-count-eq0.true (search arith))
 
 -- more was given than was wanted

@@ -21,14 +21,16 @@ loop-left-init g c = record {
         is,
         refl,
         refl,
-        begins c.replay_law.ensures.ticks c.replay_law.ensures.state s.version s.song c.args.rate (sequential_of c.args.song.now s)
+        begins c.replay_law.ensures.ticks c.replay_law.ensures.state s.version s.song c.args.rate
+            (sequential_of c.args.song.now s)
             c.taking_law.ensures.first c.taking_law.ensures.whole c.args.frames (g.W.Sink.held c.args.wav.now),
       );
   faults = refl;
 }
 
 -- the tick of what is shown is that of the song
-same_tick : (shown_version : ℕ) (shown_song : Module) (version : ℕ) (song : Module) (rate : ℕ) (state : SequentialState) → shown_version ≡ version → shown_song ≡ song
+same_tick : (shown_version : ℕ) (shown_song : Module) (version : ℕ) (song : Module) (rate : ℕ) (state : SequentialState)
+    → shown_version ≡ version → shown_song ≡ song
     → seq_tick shown_version shown_song rate state ≡ seq_tick version song rate state
 same_tick shown_version shown_song version song rate state e f =
     ap (λ (v : ℕ). seq_tick v shown_song rate state) e ∙ ap (λ (m : Module). seq_tick version m rate state) f
@@ -50,17 +52,29 @@ loop-left-preserved g c =
           let same = same_tick here.version here.song s.version s.song c.args.rate state b.1 b.2 in
           let sound : take (2 * n) c.play_tick-tick.new.out ≡ (seq_tick s.version s.song c.args.rate state).sound =
           c.play_tick-tick.ensures.sound w is ∙ ap (λ (t : Tick). t.sound) same in
-          let room : 2 * n ≤ length c.play_tick-tick.new.out = omega (arith, c.play_tick-tick.ensures.few_frames, c.play_tick-tick.ensures.many) in
-          let long = sound_long c.play_tick-tick.new.out (seq_tick s.version s.song c.args.rate state).sound n sound room in
-          let piece = piece_of c.play_tick-tick.new.out (seq_tick s.version s.song c.args.rate state).sound n c.min-count.result sound (omega (arith, c.min-count.ensures)) in
-          let took = subst (λ (numbers : List ℤ). Appends (g.W.Sink.held l.wav) (g.W.Sink.held c.put_frames_through.new.sink) (sound_bytes numbers)) piece c.in_ok-put_frames_through.ensures.whole in
-          let on = goes_on c.replay_law.ensures.ticks c.replay_law.ensures.state s.version s.song c.args.rate (sequential_of c.args.song.now s) c.taking_law.ensures.joined
-          c.args.frames l.left n c.min-count.result _ _ _ state b.3 (omega arith) long c.play_tick-tick.ensures.some_frames c.min-count.ensures took in (
+          let room : 2 * n ≤ length c.play_tick-tick.new.out =
+              omega (arith, c.play_tick-tick.ensures.few_frames, c.play_tick-tick.ensures.many) in
+          let long =
+              sound_long c.play_tick-tick.new.out (seq_tick s.version s.song c.args.rate state).sound n sound room in
+          let piece =
+              piece_of c.play_tick-tick.new.out (seq_tick s.version s.song c.args.rate state).sound n c.min-count.result
+              sound (omega (arith, c.min-count.ensures)) in
+          let took =
+              subst
+              (λ (numbers : List ℤ).
+                  Appends (g.W.Sink.held l.wav) (g.W.Sink.held c.put_frames_through.new.sink) (sound_bytes numbers))
+              piece c.in_ok-put_frames_through.ensures.whole in
+          let on = goes_on c.replay_law.ensures.ticks c.replay_law.ensures.state s.version s.song c.args.rate
+              (sequential_of c.args.song.now s) c.taking_law.ensures.joined
+          c.args.frames l.left n c.min-count.result _ _ _ state b.3 (omega arith) long
+              c.play_tick-tick.ensures.some_frames c.min-count.ensures took in (
             b.0,
             a.1.version ∙ b.1,
             a.1.song ∙ b.2,
-            subst (λ (x : SequentialState). Underway s.version s.song c.args.rate c.args.frames (sequential_of c.args.song.now s) (g.W.Sink.held c.args.wav.now)
-                (g.W.Sink.held c.put_frames_through.new.sink) x (l.left - c.min-count.result)) (sym (a.1.state ∙ ap (λ (t : Tick). t.state) same)) on,
+            subst (λ (x : SequentialState). Underway s.version s.song c.args.rate c.args.frames
+                (sequential_of c.args.song.now s) (g.W.Sink.held c.args.wav.now)
+                (g.W.Sink.held c.put_frames_through.new.sink) x (l.left - c.min-count.result))
+                    (sym (a.1.state ∙ ap (λ (t : Tick). t.state) same)) on,
           );
       faults = c.in_ok-put_frames_through.ensures.cause.kept ∙ l.invariant.faults;
     }
@@ -79,12 +93,21 @@ returns-in_err-put_frames_through-clause-front g c =
     let same = same_tick here.version here.song s.version s.song c.args.rate state b.1 b.2 in
     let sound : take (2 * n) c.play_tick-tick.new.out ≡ (seq_tick s.version s.song c.args.rate state).sound =
     c.play_tick-tick.ensures.sound w is ∙ ap (λ (t : Tick). t.sound) same in
-    let room : 2 * n ≤ length c.play_tick-tick.new.out = omega (arith, c.play_tick-tick.ensures.few_frames, c.play_tick-tick.ensures.many) in
+    let room : 2 * n ≤ length c.play_tick-tick.new.out =
+        omega (arith, c.play_tick-tick.ensures.few_frames, c.play_tick-tick.ensures.many) in
     let long = sound_long c.play_tick-tick.new.out (seq_tick s.version s.song c.args.rate state).sound n sound room in
-    let piece = piece_of c.play_tick-tick.new.out (seq_tick s.version s.song c.args.rate state).sound n c.min-count.result sound (omega (arith, c.min-count.ensures)) in
-    let part = subst (λ (numbers : List ℤ). TakesFront (g.W.Sink.held l.wav) (g.W.Sink.held c.put_frames_through.new.sink) (sound_bytes numbers)) piece c.in_err-put_frames_through.ensures.front in (
+    let piece =
+        piece_of c.play_tick-tick.new.out (seq_tick s.version s.song c.args.rate state).sound n c.min-count.result sound
+        (omega (arith, c.min-count.ensures)) in
+    let part =
+        subst
+        (λ (numbers : List ℤ).
+            TakesFront (g.W.Sink.held l.wav) (g.W.Sink.held c.put_frames_through.new.sink) (sound_bytes numbers)) piece
+        c.in_err-put_frames_through.ensures.front in
+        (
       b.0,
-      cut c.replay_law.ensures.ticks c.replay_law.ensures.state s.version s.song c.args.rate (sequential_of c.args.song.now s) c.taking_law.ensures.front
+      cut c.replay_law.ensures.ticks c.replay_law.ensures.state s.version s.song c.args.rate
+          (sequential_of c.args.song.now s) c.taking_law.ensures.front
           c.args.frames l.left n c.min-count.result _ _ _ state b.3 (omega arith) long c.min-count.ensures part,
     ))
 
@@ -93,4 +116,5 @@ returns-clause-whole g c = λ w is.
     let l = c.loop-left in
     let b = l.invariant.under w is in
     let s : Shown = g.V.SongView.shown c.args.view.now w in
-    (b.0, ends c.replay_law.ensures.ticks c.replay_law.ensures.state s.version s.song c.args.rate (sequential_of c.args.song.now s) c.args.frames l.left _ _ _ b.3 (omega arith))
+    (b.0, ends c.replay_law.ensures.ticks c.replay_law.ensures.state s.version s.song c.args.rate
+        (sequential_of c.args.song.now s) c.args.frames l.left _ _ _ b.3 (omega arith))

@@ -4,10 +4,14 @@ use Rattle.ft_words.proofs.Arguments.{copy_song, copy_out, named_is, text_never_
 use Rattle.ft_words.proofs.files.copy_names.Goals as goal
 
 pub unreachable-requires : goal.unreachable-requires
-unreachable-requires c = text_never_none copy_app _ _ c.in_ok-matches.matches c.get_str.result copy_song c.in_ok-matches.ensures.parse c.get_str.ensures c.in_default.is
+unreachable-requires c =
+    text_never_none copy_app _ _ c.in_ok-matches.matches c.get_str.result copy_song c.in_ok-matches.ensures.parse
+    c.get_str.ensures c.in_default.is
 
 pub unreachable-requires-in_default-get_str : goal.unreachable-requires-in_default-get_str
-unreachable-requires-in_default-get_str c = text_never_none copy_app _ _ c.in_ok-matches.matches c.get_str-2.result copy_out c.in_ok-matches.ensures.parse c.get_str-2.ensures c.in_default-get_str.is
+unreachable-requires-in_default-get_str c =
+    text_never_none copy_app _ _ c.in_ok-matches.matches c.get_str-2.result copy_out c.in_ok-matches.ensures.parse
+    c.get_str-2.ensures c.in_default-get_str.is
 
 pub returns-clause-files : goal.returns-clause-files
 returns-clause-files c =
@@ -15,8 +19,12 @@ returns-clause-files c =
     let exact = c.in_ok-matches.ensures.exact in
     record {
       taken = exact.0;
-      song = named_is copy_app ws c.in_ok-matches.matches (codes "song") _ c.in-Some.song exact c.in-Some.ensures c.in_ok-list_of.ensures.text;
-      wav = named_is copy_app ws c.in_ok-matches.matches (codes "out") _ c.in-Some-get_str.out exact c.in-Some-get_str.ensures c.in_ok-list_of-2.ensures.text;
+      song =
+          named_is copy_app ws c.in_ok-matches.matches (codes "song") _ c.in-Some.song exact c.in-Some.ensures
+          c.in_ok-list_of.ensures.text;
+      wav =
+          named_is copy_app ws c.in_ok-matches.matches (codes "out") _ c.in-Some-get_str.out exact
+          c.in-Some-get_str.ensures c.in_ok-list_of-2.ensures.text;
       ledger = search rules;
       scripts = search rules;
     }

@@ -18,7 +18,10 @@ pub returns-clause-only : goal.returns-clause-only
 returns-clause-only c = clauses.only c.args.bytes.now c.read_file.result c.read_file.ensures.answer
 
 pub returns-clause-canonical : goal.returns-clause-canonical
-returns-clause-canonical c = λ song valid spelled. clauses.canonical c.args.bytes.now c.read_file.result c.read_file.ensures.answer song spelled (c.canonical_is_spelled.ensures song valid)
+returns-clause-canonical c =
+    λ song valid spelled.
+    clauses.canonical c.args.bytes.now c.read_file.result c.read_file.ensures.answer song spelled
+    (c.canonical_is_spelled.ensures song valid)
 
 pub returns-clause-not_xm : goal.returns-clause-not_xm
 returns-clause-not_xm c = λ at. (

@@ -16,10 +16,13 @@ held_none (suc n) = ap (λ (l : List Bool). false ∷ l) (held_none n)
 pub returns-clause-shown : goal.returns-clause-shown
 returns-clause-shown c = λ version.
     let many : c.loop.counter ≡ c.args.song.now.channels = omega arith in
-    ap (λ (kept : List (Option Kept)). shown_of version c.args.song.now kept) (c.loop.invariant ∙ ap (λ (n : ℕ). replicate n None) many)
-    ∙ ap (λ (kept : List (Option Owned)). record { version = version; song = c.args.song.now; kept = kept }) (owned_none version c.args.song.now.channels)
+    ap (λ (kept : List (Option Kept)). shown_of version c.args.song.now kept)
+        (c.loop.invariant ∙ ap (λ (n : ℕ). replicate n None) many)
+    ∙ ap (λ (kept : List (Option Owned)). record { version = version; song = c.args.song.now; kept = kept })
+        (owned_none version c.args.song.now.channels)
 
 pub returns-clause-holds : goal.returns-clause-holds
 returns-clause-holds c =
     let many : c.loop.counter ≡ c.args.song.now.channels = omega arith in
-    ap (map (is_some {T = Kept})) (c.loop.invariant ∙ ap (λ (n : ℕ). replicate n None) many) ∙ held_none c.args.song.now.channels
+    ap (map (is_some {T = Kept})) (c.loop.invariant ∙ ap (λ (n : ℕ). replicate n None) many)
+        ∙ held_none c.args.song.now.channels

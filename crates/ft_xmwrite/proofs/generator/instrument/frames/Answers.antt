@@ -18,7 +18,9 @@ loop-preserved c =
     }
 
 pub returns-clause-value : goal.returns-clause-value
-returns-clause-value c = (is_done drawn_frame (drawn 16384 drawn_frame c.args.draws.now) c.loop.frames.items 16384 c.loop.counter c.loop.draws c.loop-test.false c.loop.invariant.front).0
+returns-clause-value c =
+    (is_done drawn_frame (drawn 16384 drawn_frame c.args.draws.now) c.loop.frames.items 16384 c.loop.counter c.loop.draws c.loop-test.false c.loop.invariant.front).0
 
 pub returns-clause-state : goal.returns-clause-state
-returns-clause-state c = (is_done drawn_frame (drawn 16384 drawn_frame c.args.draws.now) c.loop.frames.items 16384 c.loop.counter c.loop.draws c.loop-test.false c.loop.invariant.front).1
+returns-clause-state c =
+    (is_done drawn_frame (drawn 16384 drawn_frame c.args.draws.now) c.loop.frames.items 16384 c.loop.counter c.loop.draws c.loop-test.false c.loop.invariant.front).1

@@ -12,4 +12,6 @@ loop-preserved c = record {
 }
 
 pub returns : goal.returns
-returns c = c.from_vec.ensures ∙ (is_done drawn_instrument (drawn 16 drawn_instrument c.args.draws.now) c.loop.instruments.items 16 c.loop.counter c.loop.draws c.loop-test.false c.loop.invariant.front).0
+returns c =
+    c.from_vec.ensures
+    ∙ (is_done drawn_instrument (drawn 16 drawn_instrument c.args.draws.now) c.loop.instruments.items 16 c.loop.counter c.loop.draws c.loop-test.false c.loop.invariant.front).0

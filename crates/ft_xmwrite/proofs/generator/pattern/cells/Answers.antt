@@ -12,7 +12,9 @@ loop-preserved c = record {
 }
 
 pub returns-clause-value : goal.returns-clause-value
-returns-clause-value c = (is_done drawn_cell (drawn 512 drawn_cell c.args.draws.now) c.loop.cells.items 512 c.loop.counter c.loop.draws c.loop-test.false c.loop.invariant.front).0
+returns-clause-value c =
+    (is_done drawn_cell (drawn 512 drawn_cell c.args.draws.now) c.loop.cells.items 512 c.loop.counter c.loop.draws c.loop-test.false c.loop.invariant.front).0
 
 pub returns-clause-state : goal.returns-clause-state
-returns-clause-state c = (is_done drawn_cell (drawn 512 drawn_cell c.args.draws.now) c.loop.cells.items 512 c.loop.counter c.loop.draws c.loop-test.false c.loop.invariant.front).1
+returns-clause-state c =
+    (is_done drawn_cell (drawn 512 drawn_cell c.args.draws.now) c.loop.cells.items 512 c.loop.counter c.loop.draws c.loop-test.false c.loop.invariant.front).1

@@ -12,7 +12,10 @@ loop-preserved c = record {
 }
 
 pub returns-clause-value : goal.returns-clause-value
-returns-clause-value c = c.from_vec.ensures ∙ (is_done drawn_pattern (drawn 40 drawn_pattern c.args.draws.now) c.loop.patterns.items 40 c.loop.counter c.loop.draws c.loop-test.false c.loop.invariant.front).0
+returns-clause-value c =
+    c.from_vec.ensures
+    ∙ (is_done drawn_pattern (drawn 40 drawn_pattern c.args.draws.now) c.loop.patterns.items 40 c.loop.counter c.loop.draws c.loop-test.false c.loop.invariant.front).0
 
 pub returns-clause-state : goal.returns-clause-state
-returns-clause-state c = (is_done drawn_pattern (drawn 40 drawn_pattern c.args.draws.now) c.loop.patterns.items 40 c.loop.counter c.loop.draws c.loop-test.false c.loop.invariant.front).1
+returns-clause-state c =
+    (is_done drawn_pattern (drawn 40 drawn_pattern c.args.draws.now) c.loop.patterns.items 40 c.loop.counter c.loop.draws c.loop-test.false c.loop.invariant.front).1
