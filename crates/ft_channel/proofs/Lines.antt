@@ -68,7 +68,7 @@ fallen_by start (suc n) width lt few =
 
 pub line_down : (from to : Point) (position : ℕ) → to.y < from.y → position < to.x → from.x ≤ position
     → from.y - ((from.y - to.y) * (position - from.x) + (to.x - from.x) - 1) / (to.x - from.x)
-        ≡ on_line from to position
+    ≡ on_line from to position
 unfolding on_line
 line_down from to position lt before begun =
     let gone = position - from.x in

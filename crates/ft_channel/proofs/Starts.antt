@@ -29,13 +29,13 @@ can_begin cell frame head = is_played (played_note cell.note head.relative) && n
 
 start_missing : (song : Module) (c : ℕ) (cell : Cell) (frame : ℕ) (owned : Option Owned) (lane : Lane)
     → head_of_owned owned ≡ None
-        → (start_of song c cell frame owned lane ≡ no_start (without_voice lane)) × (owned ≡ None)
+    → (start_of song c cell frame owned lane ≡ no_start (without_voice lane)) × (owned ≡ None)
 start_missing song c cell frame None lane e = (refl, refl)
 start_missing song c cell frame (Some owned) lane e = absurd cc
 
 start_not : (song : Module) (c : ℕ) (cell : Cell) (frame : ℕ) (owned : Option Owned) (head : SampleHead) (lane : Lane)
     → head_of_owned owned ≡ Some head → can_begin cell frame head ≡ false
-        → start_of song c cell frame owned lane ≡ no_start (without_voice lane)
+    → start_of song c cell frame owned lane ≡ no_start (without_voice lane)
 start_not song c cell frame None head lane e wrong = refl
 start_not song c cell frame (Some owned) head lane e wrong =
     let same : head_of owned.sample ≡ head = cc in
@@ -64,11 +64,11 @@ pub begin_missing : (before after : Shown) (c : ℕ) (cell : Cell) (channel : Ch
     → head_of_owned (begun before.version before.song channel.instrument (cell.note - 1)) ≡ None
     → after ≡ keeping c (begun before.version before.song channel.instrument (cell.note - 1)) before
     → Started c (begin_of before.version before.song c cell (lane_of c before channel)) before after
-        (record channel { voice = None }) false
+    (record channel { voice = None }) false
 begin_missing before after c cell channel e kept =
     let ends =
-        start_missing before.song c cell (start_frame cell channel)
-        (begun before.version before.song channel.instrument (cell.note - 1)) (lane_of c before channel) e in
+    start_missing before.song c cell (start_frame cell channel)
+    (begun before.version before.song channel.instrument (cell.note - 1)) (lane_of c before channel) e in
     let nothing = kept ∙ ap (λ (owned : Option Owned). keeping c owned before) ends.1 in
     rw ends.0 (record { lane = record { same = refl; kept = nothing }; same = refl })
 
@@ -77,11 +77,11 @@ pub begin_not : (before after : Shown) (c : ℕ) (cell : Cell) (channel : Channe
     → head_of_owned (begun before.version before.song channel.instrument (cell.note - 1)) ≡ Some head
     → can_begin cell (start_frame cell channel) head ≡ false → after ≡ keeping c None before
     → Started c (begin_of before.version before.song c cell (lane_of c before channel)) before after
-        (record channel { voice = None }) false
+    (record channel { voice = None }) false
 begin_not before after c cell channel head e wrong kept =
     let ends =
-        start_not before.song c cell (start_frame cell channel)
-        (begun before.version before.song channel.instrument (cell.note - 1)) head (lane_of c before channel) e wrong in
+    start_not before.song c cell (start_frame cell channel)
+    (begun before.version before.song channel.instrument (cell.note - 1)) head (lane_of c before channel) e wrong in
     rw ends (record { lane = record { same = refl; kept = kept }; same = refl })
 
 -- a note that can begin begins its voice
@@ -89,13 +89,13 @@ pub begin_so :
     (before after : Shown) (c : ℕ) (cell : Cell) (channel channel_after : Channel) (head : SampleHead) (period : ℕ)
     → head_of_owned (begun before.version before.song channel.instrument (cell.note - 1)) ≡ Some head
     → can_begin cell (start_frame cell channel) head ≡ true
-        → after ≡ keeping c (begun before.version before.song channel.instrument (cell.note - 1)) before
+    → after ≡ keeping c (begun before.version before.song channel.instrument (cell.note - 1)) before
     → period ≡ note_period before.song cell head
-        → channel_after ≡ with_voice (new_voice c (start_frame cell channel) head) period channel
+    → channel_after ≡ with_voice (new_voice c (start_frame cell channel) head) period channel
     → Started c (begin_of before.version before.song c cell (lane_of c before channel)) before after channel_after true
 begin_so before after c cell channel channel_after head period e right kept pitch made =
     let starts =
-        start_so before.song c cell (start_frame cell channel)
-        (begun before.version before.song channel.instrument (cell.note - 1)) head (lane_of c before channel) e right in
+    start_so before.song c cell (start_frame cell channel)
+    (begun before.version before.song channel.instrument (cell.note - 1)) head (lane_of c before channel) e right in
     let same = made ∙ ap (λ (p : ℕ). with_voice (new_voice c (start_frame cell channel) head) p channel) pitch in
     rw starts (record { lane = record { same = same; kept = kept }; same = refl })

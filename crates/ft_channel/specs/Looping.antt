@@ -13,4 +13,4 @@ turn_with channel owned control =
 abbrev pub Loops : (Turn → Turn) → Channel → Channel → Control → Control → Type 0
 Loops rule channel channel_after control control_after =
     (owned : Option Owned)
-        → turn_with channel_after owned control_after ≡ rule (turn_with channel owned control)
+    → turn_with channel_after owned control_after ≡ rule (turn_with channel owned control)

@@ -20,4 +20,4 @@ abbrev pub Starts : {V W : Type 0} → (V → W → Type 0) → (V → W → Sho
 Starts {W = W} shows shown rule c view view_after channel channel_after began =
     (w : W) → shows view_after w → shows view w
     × Started c (rule (shown view w).version (shown view w).song (lane_of c (shown view w) channel))
-        (shown view w) (shown view_after w) channel_after began
+    (shown view w) (shown view_after w) channel_after began

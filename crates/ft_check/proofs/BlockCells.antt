@@ -80,17 +80,17 @@ no_rows channels r c w change old = same_lists old (each_from (blocked channels 
     (sym (length_each (blocked channels r c 0 w change) 0 old))
     (λ k d below. sym (get_first (blocked channels r c 0 w change) old k d below
     ∙ ap (λ b. cond b (change (k / channels) (k % channels) (get_or old k d)) (get_or old k d))
-        (none_yet r c w (k / channels) (k % channels))))
+    (none_yet r c w (k / channels) (k % channels))))
 
 -- what is known of the new row
 pub record IsRow (channels r c i w : ℕ) (change : ℕ → ℕ → Cell → Cell) (old cells ys : List Cell) (at : ℕ) : Type 0
-    where
-  pub wide : c + w ≤ channels
-  pub long : (r + i) * channels + channels ≤ length old
-  pub before : cells ≡ each_from (blocked channels r c i w change) 0 old
-  pub place : at ≡ (r + i) * channels + c
-  pub count : length ys ≡ w
-  pub each : (j : ℕ) (d : Cell) → j < w → get_or ys j d ≡ change (r + i) (c + j) (get_or cells (at + j) d)
+  where
+    pub wide : c + w ≤ channels
+    pub long : (r + i) * channels + channels ≤ length old
+    pub before : cells ≡ each_from (blocked channels r c i w change) 0 old
+    pub place : at ≡ (r + i) * channels + c
+    pub count : length ys ≡ w
+    pub each : (j : ℕ) (d : Cell) → j < w → get_or ys j d ≡ change (r + i) (c + j) (get_or cells (at + j) d)
 
 in_row : (channels r c i w : ℕ) (change : ℕ → ℕ → Cell → Cell) (old cells ys : List Cell) (at k : ℕ) (d : Cell)
     → IsRow channels r c i w change old cells ys at → at ≤ k → k < at + w
@@ -108,11 +108,11 @@ in_row channels r c i w change old cells ys at k d row from to =
     let kept : get_or cells k d ≡ get_or old k d =
     ap (λ zs. get_or zs k d) row.before ∙ get_first (blocked channels r c i w change) old k d inside
     ∙ ap (λ b. cond b (change (k / channels) (k % channels) (get_or old k d)) (get_or old k d))
-        (not_yet r c i w (k / channels) (k % channels) q) in
+    (not_yet r c i w (k / channels) (k % channels) q) in
     row.each (k - at) d (omega (arith, from, to))
     ∙ ap (λ n. change (r + i) m (get_or cells n d)) here ∙ ap (change (r + i) m) kept
     ∙ sym (ap (λ b. cond b (change (k / channels) (k % channels) (get_or old k d)) (get_or old k d))
-        (is_new r c i w (k / channels) (k % channels) q low high)
+    (is_new r c i w (k / channels) (k % channels) q low high)
     ∙ ap (λ n. change n (k % channels) (get_or old k d)) q ∙ ap (λ n. change (r + i) n (get_or old k d)) rest)
 
 off_row : (channels r c i w : ℕ) (change : ℕ → ℕ → Cell → Cell) (old cells ys : List Cell) (at k : ℕ) (d : Cell)
@@ -141,14 +141,14 @@ put_below : (at w : ℕ) (cells ys : List Cell) (k : ℕ) (d : Cell) → at + w 
     → get_or (put_mid at w cells ys) k d ≡ get_or cells k d
 put_below at w cells ys k d fits low =
     get_left (take at cells) (ys ++ drop w (drop at cells)) k d (omega (arith, fits, low, length-take at cells))
-        ∙ get_or-take at cells k d low
+    ∙ get_or-take at cells k d low
 
 put_within : (at w : ℕ) (cells ys : List Cell) (k : ℕ) (d : Cell) → at + w ≤ length cells → length ys ≡ w → at ≤ k
     → k < at + w
     → get_or (put_mid at w cells ys) k d ≡ get_or ys (k - at) d
 put_within at w cells ys k d fits count low high =
     get_or-append_right (take at cells) (ys ++ drop w (drop at cells)) at k d
-        (length-take at cells ∙ omega (arith, fits)) low
+    (length-take at cells ∙ omega (arith, fits)) low
     ∙ get_left ys (drop w (drop at cells)) (k - at) d (omega (arith, count, low, high))
 
 put_above : (at w : ℕ) (cells ys : List Cell) (k : ℕ) (d : Cell) → at + w ≤ length cells → length ys ≡ w → at + w ≤ k
@@ -156,36 +156,36 @@ put_above : (at w : ℕ) (cells ys : List Cell) (k : ℕ) (d : Cell) → at + w 
 put_above at w cells ys k d fits count high =
     let here : at + (w + (k - at - w)) ≡ k = omega (arith, high) in
     get_or-append_right (take at cells) (ys ++ drop w (drop at cells)) at k d
-        (length-take at cells ∙ omega (arith, fits)) (omega (arith, high))
+    (length-take at cells ∙ omega (arith, fits)) (omega (arith, high))
     ∙ get_or-append_right ys (drop w (drop at cells)) w (k - at) d count (omega (arith, high))
     ∙ get_or-drop w (drop at cells) (k - at - w) d ∙ get_or-drop at cells (w + (k - at - w)) d
-        ∙ ap (λ n. get_or cells n d) here
+    ∙ ap (λ n. get_or cells n d) here
 
 at_place : (channels r c i w : ℕ) (change : ℕ → ℕ → Cell → Cell) (old cells ys : List Cell) (at k : ℕ) (d : Cell)
     → IsRow channels r c i w change old cells ys at → k < length old → (b e : Bool) → nat_le at k ≡ b
-        → nat_lt k (at + w) ≡ e
+    → nat_lt k (at + w) ≡ e
     → get_or (put_mid at w cells ys) k d ≡ blocked channels r c (i + 1) w change k (get_or old k d)
 at_place channels r c i w change old cells ys at k d row below true true from to =
     let low : at ≤ k = low_channel at k from in
     let high : k < at + w = high_channel k (at + w) to in
     let fits = row_fits channels r c i w change old cells ys at row in
     let e : get_or (put_mid at w cells ys) k d ≡ get_or ys (k - at) d =
-        put_within at w cells ys k d fits row.count low high in
+    put_within at w cells ys k d fits row.count low high in
     e ∙ in_row channels r c i w change old cells ys at k d row low high
 at_place channels r c i w change old cells ys at k d row below true false from to =
     let high : at + w ≤ k = grind (arith, nat_tests) in
     let fits = row_fits channels r c i w change old cells ys at row in
     let e : get_or (put_mid at w cells ys) k d ≡ get_or cells k d = put_above at w cells ys k d fits row.count high in
     e
-        ∙ off_row channels r c i w change old cells ys at k d row below
-            (λ (low : at ≤ k) (end : k < at + w). absurd (omega (arith, high, end)))
+    ∙ off_row channels r c i w change old cells ys at k d row below
+    (λ (low : at ≤ k) (end : k < at + w). absurd (omega (arith, high, end)))
 at_place channels r c i w change old cells ys at k d row below false b from to =
     let high : k < at = grind (arith, nat_tests) in
     let fits = row_fits channels r c i w change old cells ys at row in
     let e : get_or (put_mid at w cells ys) k d ≡ get_or cells k d = put_below at w cells ys k d fits high in
     e
-        ∙ off_row channels r c i w change old cells ys at k d row below
-            (λ (low : at ≤ k) (end : k < at + w). absurd (omega (arith, high, low)))
+    ∙ off_row channels r c i w change old cells ys at k d row below
+    (λ (low : at ≤ k) (end : k < at + w). absurd (omega (arith, high, low)))
 
 put_length : (at w : ℕ) (cells ys : List Cell) → length ys ≡ w → at + w ≤ length cells
     → length (put_mid at w cells ys) ≡ length cells
@@ -203,7 +203,7 @@ put_length at w cells ys count below =
 
 pub row_more : (channels r c i w : ℕ) (change : ℕ → ℕ → Cell → Cell) (old cells ys : List Cell) (at : ℕ)
     → IsRow channels r c i w change old cells ys at
-        → put_mid at w cells ys ≡ each_from (blocked channels r c (i + 1) w change) 0 old
+    → put_mid at w cells ys ≡ each_from (blocked channels r c (i + 1) w change) 0 old
 row_more channels r c i w change old cells ys at row =
     let same : length cells ≡ length old = ap length row.before ∙ length_each (blocked channels r c i w change) 0 old in
     let fits : at + w ≤ length cells = omega (arith, same, row.place, row.wide, row.long) in
@@ -223,7 +223,7 @@ rows_within channels r h rows count below is =
 pub next_row : (channels r i h count : ℕ) → i < h → (r + h) * channels ≤ count → (r + i) * channels + channels ≤ count
 next_row channels r i h count below there =
     let m : suc (r + i) * channels ≤ (r + h) * channels =
-        mul-le (suc (r + i)) channels (r + h) channels (omega (arith, below)) (omega arith) in
+    mul-le (suc (r + i)) channels (r + h) channels (omega (arith, below)) (omega arith) in
     omega (arith, m, there)
 
 pub row_there : (channels i h count : ℕ) → i < h → h * channels ≤ count → i * channels + channels ≤ count
@@ -244,7 +244,7 @@ pub part_each : (change : Cell → Cell) (at w : ℕ) (cells : List Cell) (j : �
     → get_or (map change (mid_of at w cells)) j d ≡ change (get_or cells (at + j) d)
 part_each change at w cells j d fits below =
     get_or-map change (take w (drop at cells)) j d d
-        (omega (arith, fits, below, length-take w (drop at cells), length-drop at cells))
+    (omega (arith, fits, below, length-take w (drop at cells), length-drop at cells))
     ∙ ap change (get_or-take w (drop at cells) j d below ∙ get_or-drop at cells j d)
 
 -- ---- a pattern that is found
@@ -261,7 +261,7 @@ pub block_long : (song : Module) (p r h : ℕ) (pattern : Pattern) → IsValid s
 block_long song p r h pattern v found below =
     let valid = all_found (IsValidPattern song.channels) song.patterns p pattern v.patterns found in
     rows_within song.channels r h pattern.rows (length pattern.cells)
-        (subst (λ (it : Option Pattern). r + h ≤ rows_in it) found below) valid.whole
+    (subst (λ (it : Option Pattern). r + h ≤ rows_in it) found below) valid.whole
 
 -- ---- copied cells
 
@@ -294,17 +294,17 @@ lower a b below = grind (arith, nat_tests)
 -- rows of a pattern have the cells of the song
 row_cell : (channels r h i m : ℕ) (pattern : Pattern) → i < h → m < channels → r + h ≤ pattern.rows
     → get_or (take (h * channels) (drop (r * channels) pattern.cells)) (i * channels + m) empty_cell
-        ≡ cell_in channels (Some pattern) (r + i) m
+    ≡ cell_in channels (Some pattern) (r + i) m
 row_cell channels r h i m pattern low narrow there =
     let more : suc i * channels ≤ h * channels =
-        mul-le (suc i) channels h channels (omega (arith, low)) (omega arith) in
+    mul-le (suc i) channels h channels (omega (arith, low)) (omega arith) in
     let inside : i * channels + m < h * channels = omega (arith, more, narrow) in
     let place : r * channels + (i * channels + m) ≡ (r + i) * channels + m = omega arith in
     get_or-take (h * channels) (drop (r * channels) pattern.cells) (i * channels + m) empty_cell inside
     ∙ get_or-drop (r * channels) pattern.cells (i * channels + m) empty_cell
     ∙ ap (λ n. get_or pattern.cells n empty_cell) place ∙ got pattern.cells ((r + i) * channels + m)
     ∙ when_true (nat_lt (r + i) pattern.rows) (unwrap_or (slice_get pattern.cells ((r + i) * channels + m)) empty_cell)
-        empty_cell
+    empty_cell
     (lower (r + i) pattern.rows (omega (arith, low, there)))
 
 cond_same : (b : Bool) (x y z : Cell) → (b ≡ true → x ≡ y) → cond b x z ≡ cond b y z
@@ -316,7 +316,7 @@ each_same : (f g : ℕ → Cell → Cell) (place : ℕ) (cells : List Cell) → 
 each_same f g place [] same = refl
 each_same f g place (cell ∷ cells) same =
     ap (λ x. x ∷ each_from f (place + 1) cells) (same place cell)
-        ∙ ap (λ xs. g place cell ∷ xs) (each_same f g (place + 1) cells same)
+    ∙ ap (λ xs. g place cell ∷ xs) (each_same f g (place + 1) cells same)
 
 changed_same : {X : Type 0} (f g : X → X) (place : ℕ) (xs : List X) → ((x : X) → f x ≡ g x)
     → changed_at place f xs ≡ changed_at place g xs
@@ -328,14 +328,14 @@ changed_same f g (suc place) (x ∷ xs) same = ap (λ ys. x ∷ ys) (changed_sam
 pub block_same : (song : Module) (q r c h w : ℕ) (f g : ℕ → ℕ → Cell → Cell)
     → ((row channel : ℕ) (cell : Cell) → in_block r c h w row channel ≡ true → f row channel cell ≡ g row channel cell)
     → with_pattern q (with_block song.channels r c h w f) song
-        ≡ with_pattern q (with_block song.channels r c h w g) song
+    ≡ with_pattern q (with_block song.channels r c h w g) song
 block_same song q r c h w f g same =
     ap (λ (ps : List Pattern). record song { patterns = ps })
     (changed_same (with_block song.channels r c h w f) (with_block song.channels r c h w g) q song.patterns (λ pattern.
     ap (λ (cells : List Cell). record pattern { cells = cells })
     (each_same (blocked song.channels r c h w f) (blocked song.channels r c h w g) 0 pattern.cells (λ k cell.
     cond_same (in_block r c h w (k / song.channels) (k % song.channels))
-        (f (k / song.channels) (k % song.channels) cell)
+    (f (k / song.channels) (k % song.channels) cell)
     (g (k / song.channels) (k % song.channels) cell) cell (same (k / song.channels) (k % song.channels) cell)))))
 
 block_row : (r c h w row channel : ℕ) → in_block r c h w row channel ≡ true → row - r < h
@@ -348,7 +348,7 @@ block_channel r c h w row channel is = grind (arith, nat_tests)
 pub copied_same : (song : Module) (p r c r2 c2 h w : ℕ) (pattern : Pattern) (rows : List Cell)
     → slice_get song.patterns p ≡ Some pattern
     → r + h ≤ pattern.rows → c + w ≤ song.channels
-        → rows ≡ take (h * song.channels) (drop (r * song.channels) pattern.cells)
+    → rows ≡ take (h * song.channels) (drop (r * song.channels) pattern.cells)
     → (row channel : ℕ) (cell : Cell) → in_block r2 c2 h w row channel ≡ true
     → from_rows song.channels rows c r2 c2 row channel cell ≡ copied song p r c r2 c2 row channel
 copied_same song p r c r2 c2 h w pattern rows found there wide is row channel cell inside =

@@ -61,10 +61,10 @@ err_so (Err e) holds so = so holds
 
 pub pattern_now : (song : Module) (p at : ℕ) (change : Pattern → Pattern) (x y : Pattern)
     → at ≡ p → slice_get song.patterns at ≡ Some x → y ≡ change x
-        → record song { patterns = set song.patterns at y } ≡ with_pattern p change song
+    → record song { patterns = set song.patterns at y } ≡ with_pattern p change song
 pattern_now song p at change x y index found new =
     ap (λ (ps : List Pattern). record song { patterns = ps })
-        (changed_found p at change song.patterns x y index found new)
+    (changed_found p at change song.patterns x y index found new)
 
 pub pattern_back : (song : Module) (at : ℕ) (x y : Pattern)
     → slice_get song.patterns at ≡ Some x → y ≡ x → record song { patterns = set song.patterns at y } ≡ song
@@ -81,7 +81,7 @@ pub instrument_now : (song : Module) (i at : ℕ) (change : Instrument → Instr
     → record song { instruments = set song.instruments at y } ≡ with_instrument i change song
 instrument_now song i at change x y index found new =
     ap (λ (is : List Instrument). record song { instruments = is })
-        (changed_found (i - 1) at change song.instruments x y index found new)
+    (changed_found (i - 1) at change song.instruments x y index found new)
 
 pub instrument_back : (song : Module) (at : ℕ) (x y : Instrument)
     → slice_get song.instruments at ≡ Some x → y ≡ x → record song { instruments = set song.instruments at y } ≡ song
@@ -92,18 +92,18 @@ pub instrument_none : (song : Module) (i at : ℕ) (change : Instrument → Inst
     → at ≡ i - 1 → slice_get song.instruments at ≡ None → song ≡ with_instrument i change song
 instrument_none song i at change index none =
     ap (λ (is : List Instrument). record song { instruments = is })
-        (changed_none (i - 1) at change song.instruments index none)
+    (changed_none (i - 1) at change song.instruments index none)
 
 pub sample_now : (instrument : Instrument) (s at : ℕ) (change : Sample → Sample) (x y : Sample)
     → at ≡ s → slice_get instrument.samples at ≡ Some x → y ≡ change x
     → record instrument { samples = set instrument.samples at y } ≡ sample_in_changed s change instrument
 sample_now instrument s at change x y index found new =
     ap (λ (ss : List Sample). record instrument { samples = ss })
-        (changed_found s at change instrument.samples x y index found new)
+    (changed_found s at change instrument.samples x y index found new)
 
 pub sample_back : (instrument : Instrument) (at : ℕ) (x y : Sample)
     → slice_get instrument.samples at ≡ Some x → y ≡ x
-        → record instrument { samples = set instrument.samples at y } ≡ instrument
+    → record instrument { samples = set instrument.samples at y } ≡ instrument
 sample_back instrument at x y found same =
     ap (λ (ss : List Sample). record instrument { samples = ss }) (put_back at instrument.samples x y found same)
 
@@ -111,4 +111,4 @@ pub sample_none : (instrument : Instrument) (s at : ℕ) (change : Sample → Sa
     → at ≡ s → slice_get instrument.samples at ≡ None → instrument ≡ sample_in_changed s change instrument
 sample_none instrument s at change index none =
     ap (λ (ss : List Sample). record instrument { samples = ss })
-        (changed_none s at change instrument.samples index none)
+    (changed_none s at change instrument.samples index none)

@@ -13,7 +13,7 @@ filled_in : {X : Type 0} (count n : ℕ) (xs : List X) (x : X) → count ≤ n
 filled_in zero n xs x few = let e : 0 - length xs ≡ 0 = omega arith in ap (λ k. replicate k x) e
 filled_in (suc count) n [] x few =
     let e : suc count - 0 ≡ suc count = omega arith in
-        ap (λ k. replicate k x) e ∙ sym (take-replicate (suc count) n x few)
+    ap (λ k. replicate k x) e ∙ sym (take-replicate (suc count) n x few)
 filled_in (suc count) n (y ∷ xs) x few =
     let e : suc count - suc (length xs) ≡ count - length xs = omega arith in
     ap (λ k. y ∷ (take count xs ++ replicate k x)) e ∙ ap (λ zs. y ∷ zs) (filled_in count n xs x (omega (arith, few)))
@@ -46,7 +46,7 @@ row_in {X = X} at n cells row rest size within is =
     let count : length back - n ≡ length cells - length front - length row = omega (arith, long, wide, size, within) in
     let whole : take (length cells) front ≡ front = take_all (length cells) front (omega (arith, wide)) in
     let kept : take (length cells - length front) row ≡ row =
-        take_all (length cells - length front) row (omega (arith, wide, size, within)) in
+    take_all (length cells - length front) row (omega (arith, wide, size, within)) in
     ap (λ zs. front ++ (rest ++ zs)) end ∙ ap (λ zs. front ++ zs) (append-nil rest ∙ is
     ∙ ap (λ zs. row ++ take (length zs - n) zs) mid ∙ ap (λ k. row ++ take k back) count)
     ∙ sym (take-both (length cells) front (row ++ back)

@@ -16,7 +16,7 @@ block_changed (Transpose d) cell = moved d cell
 abbrev pub blocked : ℕ → ℕ → ℕ → ℕ → ℕ → (ℕ → ℕ → Cell → Cell) → ℕ → Cell → Cell
 blocked channels r c h w change place cell =
     if in_block r c h w (place / channels) (place % channels)
-        then change (place / channels) (place % channels) cell else cell
+    then change (place / channels) (place % channels) cell else cell
 
 abbrev pub cells_in : Option Pattern → List Cell
 cells_in None = []

@@ -51,13 +51,13 @@ frames_there : (song : Module) (i s from to : ℕ) (causes : List (Option EditFa
     → HasFrames song i s from to × (first_of causes ≡ None)
 frames_there song i s from to causes none =
     let rest =
-        sample_rest song i s
-        (unless (nat_le from to && nat_le to (frames_at song i s)) (Cut from to (frames_at song i s)) ∷ causes) none in
+    sample_rest song i s
+    (unless (nat_le from to && nat_le to (frames_at song i s)) (Cut from to (frames_at song i s)) ∷ causes) none in
     let p = passed (nat_le from to && nat_le to (frames_at song i s)) (Cut from to (frames_at song i s)) causes rest in
     let b = both (nat_le from to) (nat_le to (frames_at song i s)) p.0 in
     let some =
-        some_instrument song i s
-        (unless (nat_le from to && nat_le to (frames_at song i s)) (Cut from to (frames_at song i s)) ∷ causes) none in
+    some_instrument song i s
+    (unless (nat_le from to && nat_le to (frames_at song i s)) (Cut from to (frames_at song i s)) ∷ causes) none in
     ((some, most from to b.0, most to (frames_at song i s) b.1), p.1)
 
 pub allowed : AllowedIsThere
@@ -77,8 +77,8 @@ allowed song (edits.Delorder position) none =
     low position (length song.orders) s.0
 allowed song (edits.Map i n k) none =
     let h =
-        ranged 7 0 95 n (within 13 0 15 k ∷ []) (sample_rest song i 0 (within 7 0 95 n ∷ within 13 0 15 k ∷ []) none) in
-        h.1
+    ranged 7 0 95 n (within 13 0 15 k ∷ []) (sample_rest song i 0 (within 7 0 95 n ∷ within 13 0 15 k ∷ []) none) in
+    h.1
 allowed song (edits.Point i w k x y) none =
     let rest : List (Option EditFault) = within 7 0 11 k ∷ within 9 0 64 y ∷ [] in
     let a = ranged 18 0 1 w rest (sample_rest song i 0 (within 18 0 1 w ∷ rest) none) in

@@ -176,10 +176,10 @@ which_kept false volume panning v p = p
 pub envelope_kept : (which : ℕ) (change : Envelope → Envelope) (instrument : Instrument)
     → ((envelope : Envelope) → IsValidEnvelope envelope → IsValidEnvelope (change envelope))
     → 0 < length instrument.samples → IsValidInstrument instrument
-        → IsValidInstrument (with_envelope which change instrument)
+    → IsValidInstrument (with_envelope which change instrument)
 envelope_kept which change instrument keeps some v =
     which_kept (which == 0) (record instrument { volume = change instrument.volume })
-        (record instrument { panning = change instrument.panning })
+    (record instrument { panning = change instrument.panning })
     (with_volume (change instrument.volume) instrument (keeps instrument.volume v.volume) some v)
     (with_panning (change instrument.panning) instrument (keeps instrument.panning v.panning) some v)
 

@@ -20,7 +20,7 @@ all-changed P change zero (x ∷ xs) all keeps =
     All-cons P (change x) xs (keeps x refl (All-head P x xs all)) (All-tail P x xs all)
 all-changed P change (suc place) (x ∷ xs) all keeps =
     All-cons P x (changed_at place change xs) (All-head P x xs all)
-        (all-changed P change place xs (All-tail P x xs all) keeps)
+    (all-changed P change place xs (All-tail P x xs all) keeps)
 
 pub length-each : {X : Type 0} (change : ℕ → X → X) (place : ℕ) (xs : List X)
     → length (each_from change place xs) ≡ length xs

@@ -26,7 +26,7 @@ empty_valid =
 -- as many valid cells in place of these
 pub cells_valid : (channels : ℕ) (pattern : Pattern) (cells : List Cell) → IsValidPattern channels pattern
     → length cells ≡ length pattern.cells → All IsValidCell cells
-        → IsValidPattern channels (record pattern { cells = cells })
+    → IsValidPattern channels (record pattern { cells = cells })
 cells_valid channels pattern cells v same all =
     record { some_rows = v.some_rows; few_rows = v.few_rows; whole = same ∙ v.whole; cells = all }
 
@@ -36,11 +36,11 @@ all_empty n = All-replicate IsValidCell n empty_cell empty_valid
 pub empty_pattern_valid : (channels n : ℕ) → 1 ≤ n → n ≤ 256 → IsValidPattern channels (empty_pattern channels n)
 empty_pattern_valid channels n some few =
     record {
-          some_rows = some;
-          few_rows = few;
-          whole = length-replicate {A = Cell} (n * channels) empty_cell;
-          cells = all_empty (n * channels);
-        }
+      some_rows = some;
+      few_rows = few;
+      whole = length-replicate {A = Cell} (n * channels) empty_cell;
+      cells = all_empty (n * channels);
+    }
 
 pub cell_kept : (channels r c : ℕ) (cell : Cell) (pattern : Pattern) → IsValidCell cell
     → IsValidPattern channels pattern
@@ -57,7 +57,7 @@ rows_kept channels n pattern some few v = record {
   few_rows = few;
   whole = length-take (n * channels) (pattern.cells ++ empty_rows channels n)
       ∙ omega
-          (arith, length-append pattern.cells (empty_rows channels n), length-replicate {A = Cell} (n * channels) empty_cell);
+      (arith, length-append pattern.cells (empty_rows channels n), length-replicate {A = Cell} (n * channels) empty_cell);
   cells = All-take IsValidCell (n * channels) (pattern.cells ++ empty_rows channels n)
       (All-append IsValidCell pattern.cells (empty_rows channels n) v.cells (all_empty (n * channels)));
 }
@@ -123,11 +123,11 @@ pub block_kept : (channels r c h w : ℕ) (change : ℕ → ℕ → Cell → Cel
 block_kept channels r c h w change pattern keeps v =
     let each : ℕ → Cell → Cell = λ place cell.
     cond (in_block r c h w (place / channels) (place % channels)) (change (place / channels) (place % channels) cell)
-        cell in
+    cell in
     cells_valid channels pattern (each_from each 0 pattern.cells) v (length-each each 0 pattern.cells)
     (all-each IsValidCell each 0 pattern.cells v.cells
     (λ k cell valid. chosen (in_block r c h w (k / channels) (k % channels)) (change (k / channels) (k % channels) cell)
-        cell
+    cell
     (keeps (k / channels) (k % channels) cell valid) valid))
 
 low_note : (z : ℤ) → is_note z ≡ true → nat_abs z ≤ 97
@@ -160,7 +160,7 @@ in_pattern : (channels : ℕ) (pattern : Pattern) (row channel : ℕ) → IsVali
     → IsValidCell (cell_in channels (Some pattern) row channel)
 in_pattern channels pattern row channel v =
     chosen (nat_lt row pattern.rows) (unwrap_or (slice_get pattern.cells (row * channels + channel)) empty_cell)
-        empty_cell
+    empty_cell
     (all_got IsValidCell pattern.cells (row * channels + channel) v.cells empty_valid) empty_valid
 
 in_patterns : (channels : ℕ) (patterns : List Pattern) (p row channel : ℕ) → All (IsValidPattern channels) patterns

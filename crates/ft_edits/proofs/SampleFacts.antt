@@ -50,20 +50,20 @@ pub new_sample_kept : (instrument : Instrument) → length instrument.samples + 
 new_sample_kept instrument few v =
     let len = length-append instrument.samples (new_sample ∷ []) in
     with_valid_samples instrument (instrument.samples ++ new_sample ∷ []) v (omega (arith, len))
-        (omega (arith, len, few))
+    (omega (arith, len, few))
     (All-append IsValidSample instrument.samples (new_sample ∷ []) v.samples
     (All-cons IsValidSample new_sample [] new_valid (All-nil IsValidSample)))
 
 without_when : (b : Bool) (instrument : Instrument) → nat_le (length instrument.samples) 1 ≡ b
     → IsValidInstrument instrument
     → IsValidInstrument
-        (cond b (named_only instrument.name) (record instrument { samples = without_last instrument.samples }))
+    (cond b (named_only instrument.name) (record instrument { samples = without_last instrument.samples }))
 without_when true instrument is v = named_valid instrument.name v.name
 without_when false instrument is v =
     let more : 1 < length instrument.samples = grind (arith, nat_tests) in
     let len = length-take (length instrument.samples - 1) instrument.samples in
     with_valid_samples instrument (without_last instrument.samples) v (omega (arith, len, more))
-        (omega (arith, len, v.few_samples))
+    (omega (arith, len, v.few_samples))
     (All-take IsValidSample (length instrument.samples - 1) instrument.samples v.samples)
 
 pub without_kept : (instrument : Instrument) → IsValidInstrument instrument
@@ -88,7 +88,7 @@ sample_name_kept name sample bytes v = record {
 pub sample_head_kept : (vol : ℕ) (fine rel : ℤ) (pan : ℕ) (sample : Sample) → vol ≤ 64 → FitsSigned w8 fine
     → FitsSigned w8 rel → pan < 256
     → IsValidSample sample
-        → IsValidSample (record sample { volume = vol; finetune = fine; relative = rel; panning = pan })
+    → IsValidSample (record sample { volume = vol; finetune = fine; relative = rel; panning = pan })
 sample_head_kept vol fine rel pan sample a b c d v = record {
   name = v.name;
   volume = a;
@@ -166,16 +166,16 @@ fit_when : (b : Bool) (frames : List ℤ) (sample : Sample) (start len : ℕ) �
     → start ≤ length frames
     → IsValidSample sample → FitsFrames frames sample
     → IsValidSample
-        (cond b (with_loop 0 0 0 (record sample { frames = frames }))
-            (with_loop sample.loop_kind start len (record sample { frames = frames })))
+    (cond b (with_loop 0 0 0 (record sample { frames = frames }))
+    (with_loop sample.loop_kind start len (record sample { frames = frames })))
 fit_when true frames sample start len is in_len in_start v fits =
     with_loop_and_frames 0 0 0 frames sample v fits (no_loop (length frames))
 fit_when false frames sample start len is in_len in_start v fits =
     let some : 1 ≤ len = grind (arith, nat_tests) in
     with_loop_and_frames sample.loop_kind (cond (sample.loop_kind == 0) 0 start) (cond (sample.loop_kind == 0) 0 len)
-        frames sample v fits
+    frames sample v fits
     (loop_of sample.loop_kind start len (length frames) v.looping.kind (λ more. some)
-        (λ more. omega (arith, in_len, in_start)))
+    (λ more. omega (arith, in_len, in_start)))
 
 refit_valid : (frames : List ℤ) (sample : Sample) → IsValidSample sample → FitsFrames frames sample
     → IsValidSample (refitted (record sample { frames = frames }))
@@ -223,7 +223,7 @@ paste_kept at new sample few fits v =
 -- as many frames, in the same width
 same_frames : (frames : List ℤ) (sample : Sample) → length frames ≡ length sample.frames
     → All (FitsSigned (width_of sample.wide)) frames → IsValidSample sample
-        → IsValidSample (record sample { frames = frames })
+    → IsValidSample (record sample { frames = frames })
 same_frames frames sample same fits v = record {
   name = v.name;
   volume = v.volume;
@@ -264,7 +264,7 @@ turned_kept from to sample order below v =
     (stretch_length reverse from to sample.frames (λ xs. length-reverse xs) order below)
     (all-stretch (FitsSigned (width_of sample.wide)) reverse from to sample.frames v.frames
     (λ xs all. all-reverse-aux (FitsSigned (width_of sample.wide)) xs [] all (All-nil (FitsSigned (width_of sample.wide)))))
-        v
+    v
 
 clamped_fits : (wide : Bool) (x : ℤ) → FitsSigned (width_of wide) (clamped wide x)
 clamped_fits true x = grind (arith, ints)
@@ -279,11 +279,11 @@ scaled_kept from to n d sample order below v =
     (stretch_length (map change) from to sample.frames (λ xs. length-map xs change) order below)
     (all-stretch (FitsSigned (width_of sample.wide)) (map change) from to sample.frames v.frames
     (λ xs all. All-map (FitsSigned (width_of sample.wide)) change xs (λ k d2 lt. clamped_fits sample.wide (floor_of (_ *ℤ n) d))))
-        v
+    v
 
 other_width : (wide : Bool) (frames : List ℤ) (sample : Sample) → length frames ≡ length sample.frames
     → All (FitsSigned (width_of wide)) frames → IsValidSample sample
-        → IsValidSample (record sample { wide = wide; frames = frames })
+    → IsValidSample (record sample { wide = wide; frames = frames })
 other_width wide frames sample same fits v = record {
   name = v.name;
   volume = v.volume;
@@ -305,18 +305,18 @@ narrow_fits (negsuc n) fits = omega (arith, ints)
 widened_kept : (sample : Sample) → sample.wide ≡ false → IsValidSample sample → IsValidSample (widened sample)
 widened_kept sample is v =
     let old : All (FitsSigned w8) sample.frames =
-        subst (λ (b : Bool). All (FitsSigned (width_of b)) sample.frames) is v.frames in
+    subst (λ (b : Bool). All (FitsSigned (width_of b)) sample.frames) is v.frames in
     other_width true (map (λ frame. pos 256 *ℤ frame) sample.frames) sample
-        (length-map sample.frames (λ frame. pos 256 *ℤ frame))
+    (length-map sample.frames (λ frame. pos 256 *ℤ frame))
     (All-map (FitsSigned w16) (λ frame. pos 256 *ℤ frame) sample.frames
     (λ k d lt. wide_fits _ (old k d lt))) v
 
 narrowed_kept : (sample : Sample) → sample.wide ≡ true → IsValidSample sample → IsValidSample (narrowed sample)
 narrowed_kept sample is v =
     let old : All (FitsSigned w16) sample.frames =
-        subst (λ (b : Bool). All (FitsSigned (width_of b)) sample.frames) is v.frames in
+    subst (λ (b : Bool). All (FitsSigned (width_of b)) sample.frames) is v.frames in
     other_width false (map (λ frame. floor_of frame 256) sample.frames) sample
-        (length-map sample.frames (λ frame. floor_of frame 256))
+    (length-map sample.frames (λ frame. floor_of frame 256))
     (All-map (FitsSigned w8) (λ frame. floor_of frame 256) sample.frames
     (λ k d lt. narrow_fits _ (old k d lt))) v
 
@@ -338,7 +338,7 @@ narrow_frame (negsuc n) holds = let h : n ≤ 127 = most n 127 holds in omega (a
 
 next_narrow : (b : Bool) (frame : ℤ) (frames : List ℤ) → is_narrow frame ≡ b
     → cond b (narrow_frames frames) (Some (Range 16 frame)) ≡ None
-        → (FitsSigned w8 frame) × (narrow_frames frames ≡ None)
+    → (FitsSigned w8 frame) × (narrow_frames frames ≡ None)
 next_narrow true frame frames is none = (narrow_frame frame is, none)
 next_narrow false frame frames is none = absurd cc
 

@@ -17,7 +17,7 @@ use Rattle.ft_edits.proofs.ListFacts.{length-changed, all-changed}
 -- the song with these patterns and instruments in place of its own
 pub with_valid_patterns : (song : Module) (patterns : List Pattern) → IsValid song
     → length patterns ≤ 256 → All (IsValidPattern song.channels) patterns
-        → IsValid (record song { patterns = patterns })
+    → IsValid (record song { patterns = patterns })
 with_valid_patterns song patterns v few all = record {
   name = v.name;
   tracker = v.tracker;
@@ -105,7 +105,7 @@ found_at song (suc i) instrument some found =
 
 pub instrument_kept : (song : Module) (i : ℕ) (change : Instrument → Instrument) → IsValid song → 0 < i
     → ((instrument : Instrument) → instrument_at song i ≡ Some instrument → IsValidInstrument instrument
-        → IsValidInstrument (change instrument))
+    → IsValidInstrument (change instrument))
     → IsValid (with_instrument i change song)
 instrument_kept song i change v some keeps =
     with_valid_instruments song (changed_at (i - 1) change song.instruments) v
@@ -120,7 +120,7 @@ count_of song i n instrument found some = subst (λ (it : Option Instrument). n 
 
 pub with_valid_samples : (instrument : Instrument) (samples : List Sample) → IsValidInstrument instrument
     → 1 ≤ length samples → length samples ≤ 16 → All IsValidSample samples
-        → IsValidInstrument (record instrument { samples = samples })
+    → IsValidInstrument (record instrument { samples = samples })
 with_valid_samples instrument samples v some few all = record {
   name = v.name;
   map_len = v.map_len;
@@ -136,11 +136,11 @@ with_valid_samples instrument samples v some few all = record {
 
 pub sample_kept : (song : Module) (i s : ℕ) (change : Sample → Sample) → IsValid song → 0 < i → s < samples_at song i
     → ((sample : Sample) → sample_in (instrument_at song i) s ≡ Some sample → IsValidSample sample
-        → IsValidSample (change sample))
+    → IsValidSample (change sample))
     → IsValid (with_sample i s change song)
 sample_kept song i s change v some there keeps =
     instrument_kept song i
-        (λ (instrument : Instrument). record instrument { samples = changed_at s change instrument.samples }) v some
+    (λ (instrument : Instrument). record instrument { samples = changed_at s change instrument.samples }) v some
     (λ instrument found valid.
     let same = length-changed change s instrument.samples in
     let count = count_of song i s instrument found there in

@@ -69,12 +69,12 @@ has_frames song i s from to causes none =
     let p = passed (nat_le from to && nat_le to (frames_at song i s)) _ causes h.rest in
     let b = both (nat_le from to) (nat_le to (frames_at song i s)) p.0 in
     record {
-          some = h.some;
-          there = h.there;
-          order = most from to b.0;
-          below = most to (frames_at song i s) b.1;
-          rest = p.1;
-        }
+      some = h.some;
+      there = h.there;
+      order = most from to b.0;
+      below = most to (frames_at song i s) b.1;
+      rest = p.1;
+    }
 
 -- ---- the song
 
@@ -109,7 +109,7 @@ order_new song position p v byte there few =
     with_valid_orders song (take position song.orders ++ rest) song.restart v
     (omega (arith, len, front, back, there)) (omega (arith, len, front, back, there, few))
     (All-append (λ order. order < 256) (take position song.orders) rest
-        (All-take (λ order. order < 256) position song.orders v.orders)
+    (All-take (λ order. order < 256) position song.orders v.orders)
     (All-cons (λ order. order < 256) p (drop position song.orders) byte (All-drop (λ order. order < 256) position song.orders v.orders)))
     (omega (arith, len, front, back, there, v.restart))
 
@@ -126,11 +126,11 @@ order_set song position p v byte =
 pub edited_valid : EditedIsValid
 edited_valid song (edits.Cell p r c note ins vol eff par) v f none =
     let s =
-        passed (nat_lt p (length song.patterns)) (NoPattern p)
-        (row_of song p r ∷ channel_of song c ∷ within 1 0 97 note ∷ []) none in
+    passed (nat_lt p (length song.patterns)) (NoPattern p)
+    (row_of song p r ∷ channel_of song c ∷ within 1 0 97 note ∷ []) none in
     let t =
-        passed (nat_lt r (rows_at song p)) (NoRow r (rows_at song p)) (channel_of song c ∷ within 1 0 97 note ∷ []) s.1
-        in
+    passed (nat_lt r (rows_at song p)) (NoRow r (rows_at song p)) (channel_of song c ∷ within 1 0 97 note ∷ []) s.1
+    in
     let u = passed (nat_lt c song.channels) (NoChannel c) (within 1 0 97 note ∷ []) t.1 in
     let n = ranged 1 0 97 note [] u.1 in
     let cell : Cell = record { note = note; instrument = ins; volume = vol; effect = eff; parameter = par } in
@@ -152,8 +152,8 @@ edited_valid song (edits.Delrow p r) v f none =
 edited_valid song (edits.Clear p r c h w) v f none =
     pattern_kept song p (with_block song.channels r c h w (λ row channel cell. empty_cell)) v
     (λ pattern valid.
-        block_kept song.channels r c h w (λ row channel cell. empty_cell) pattern (λ row channel cell old. empty_valid)
-        valid)
+    block_kept song.channels r c h w (λ row channel cell. empty_cell) pattern (λ row channel cell old. empty_valid)
+    valid)
 edited_valid song (edits.Transpose p r c h w d) v f none =
     pattern_kept song p (with_block song.channels r c h w (λ row channel cell. moved d cell)) v
     (λ pattern valid. block_kept song.channels r c h w (λ row channel cell. moved d cell) pattern
@@ -176,7 +176,7 @@ edited_valid song (edits.Delorder position) v f none =
 edited_valid song (edits.Restart position) v f none =
     let s = passed (nat_lt position (length song.orders)) _ _ none in
     with_valid_orders song song.orders position v v.some_orders v.few_orders v.orders
-        (low position (length song.orders) s.0)
+    (low position (length song.orders) s.0)
 edited_valid song (edits.Tempo n) v f none =
     let h = ranged 4 1 31 n [] none in
     record {
@@ -298,7 +298,7 @@ edited_valid song (edits.Vib i kind sweep depth rate) v f none =
     instrument_kept song i (λ (instrument : Instrument).
     record instrument { vibrato = record { kind = kind; sweep = sweep; depth = depth; rate = rate } }) v h.some
     (λ instrument found valid. vibrato_kept (record { kind = kind; sweep = sweep; depth = depth; rate = rate })
-        instrument
+    instrument
     (record { kind = a.1; sweep = f; depth = b.1; rate = c.1 }) (count_of song i 0 instrument found h.there) valid)
 edited_valid song (edits.Fade i n) v f none =
     let h = has_sample song i 0 _ none in
@@ -310,7 +310,7 @@ edited_valid song (edits.Newsmp i) v f none =
     let few = most (samples_at song i + 1) 16 s.0 in
     instrument_kept song i with_new_sample v h.some
     (λ instrument found valid.
-        new_sample_kept instrument (subst (λ (it : Option Instrument). sample_count it + 1 ≤ 16) found few) valid)
+    new_sample_kept instrument (subst (λ (it : Option Instrument). sample_count it + 1 ≤ 16) found few) valid)
 edited_valid song (edits.Delsmp i) v f none =
     let h = has_sample song i 0 _ none in
     instrument_kept song i without_sample v h.some (λ instrument found valid. without_kept instrument valid)
@@ -322,8 +322,8 @@ edited_valid song (edits.Smp i s vol fine rel pan) v f none =
     let h = has_sample song i s _ none in
     let a = ranged 9 0 64 vol _ h.rest in
     sample_kept song i s
-        (λ (sample : Sample). record sample { volume = vol; finetune = fine; relative = rel; panning = pan }) v h.some
-        h.there
+    (λ (sample : Sample). record sample { volume = vol; finetune = fine; relative = rel; panning = pan }) v h.some
+    h.there
     (λ sample found valid. sample_head_kept vol fine rel pan sample a.1 f.0 f.1 f.2 valid)
 edited_valid song (edits.Loop i s kind start len) v f none =
     let h = has_sample song i s _ none in
@@ -332,30 +332,30 @@ edited_valid song (edits.Loop i s kind start len) v f none =
     sample_kept song i s (with_loop kind start len) v h.some h.there
     (λ sample found valid. loop_kept kind start len sample a.1
     (subst (λ n. ((kind == 0) || ((nat_lt 0 len) && nat_le (start + len) n)) ≡ true) (frames_of song i s sample found)
-        b.0) valid)
+    b.0) valid)
 edited_valid song (edits.Cut i s from to) v f none =
     let h = has_frames song i s from to _ none in
     sample_kept song i s (without_frames from to) v h.some h.there
-        (λ sample found valid. cut_kept from to sample h.order valid)
+    (λ sample found valid. cut_kept from to sample h.order valid)
 edited_valid song (edits.Paste i s at frames) v f none =
     let h = has_frames song i s at at _ none in
     let p = passed (nat_le (frames_at song i s + length frames) 3932160) _ _ h.rest in
     let few = most (frames_at song i s + length frames) 3932160 p.0 in
     sample_kept song i s (with_new_frames at frames) v h.some h.there
     (λ sample found valid. paste_kept at frames sample
-        (subst (λ n. n + length frames ≤ 3932160) (frames_of song i s sample found) few)
+    (subst (λ n. n + length frames ≤ 3932160) (frames_of song i s sample found) few)
     (subst (λ (it : Option Sample). All (FitsSigned (width_of (width_in it))) frames) found
-        (given_fit (wide_at song i s) frames f p.1)) valid)
+    (given_fit (wide_at song i s) frames f p.1)) valid)
 edited_valid song (edits.Reverse i s from to) v f none =
     let h = has_frames song i s from to _ none in
     sample_kept song i s (turned from to) v h.some h.there
     (λ sample found valid.
-        turned_kept from to sample h.order (subst (λ n. to ≤ n) (frames_of song i s sample found) h.below) valid)
+    turned_kept from to sample h.order (subst (λ n. to ≤ n) (frames_of song i s sample found) h.below) valid)
 edited_valid song (edits.Scale i s from to n d) v f none =
     let h = has_frames song i s from to _ none in
     sample_kept song i s (scaled from to n d) v h.some h.there
     (λ sample found valid.
-        scaled_kept from to n d sample h.order (subst (λ n. to ≤ n) (frames_of song i s sample found) h.below) valid)
+    scaled_kept from to n d sample h.order (subst (λ n. to ≤ n) (frames_of song i s sample found) h.below) valid)
 edited_valid song (edits.Bits i s b) v f none =
     let h = has_sample song i s _ none in
     sample_kept song i s (with_bits b) v h.some h.there (λ sample found valid. bits_kept b sample valid)
@@ -405,7 +405,7 @@ versions_valid song (entry ∷ entries) version v all =
     let batches : Entry → Type 0 = λ (entry : Entry). All HoldsFields entry.batch in
     let rest = All-tail batches entry entries all in
     either (nat_le entry.version version) (module_at (left_by song (apply_batch song entry.batch)) entries version)
-        (module_at song entries version)
+    (module_at song entries version)
     (versions_valid (left_by song (apply_batch song entry.batch)) entries version
     (left_valid song (apply_batch song entry.batch) v
     (λ next is. batch_valid song next entry.batch v (All-head batches entry entries all) is)) rest)

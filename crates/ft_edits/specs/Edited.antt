@@ -22,9 +22,9 @@ abbrev pub edited : Module → Edit → Module
 -- patterns
 edited song (edits.Cell p r c note ins vol eff par) =
     with_pattern p
-        (with_cell song.channels r c
-            (record { note = note; instrument = ins; volume = vol; effect = eff; parameter = par }))
-        song
+    (with_cell song.channels r c
+    (record { note = note; instrument = ins; volume = vol; effect = eff; parameter = par }))
+    song
 edited song (edits.Rows p n) = with_pattern p (with_rows song.channels n) song
 edited song (edits.Insrow p r) = with_pattern p (with_new_row song.channels r) song
 edited song (edits.Delrow p r) = with_pattern p (without_row song.channels r) song
@@ -34,8 +34,8 @@ edited song (edits.Transpose p r c h w d) =
     with_pattern p (with_block song.channels r c h w (λ row channel cell. moved d cell)) song
 edited song (edits.Copy p r c h w q r2 c2) =
     with_pattern q
-        (with_block song.channels r2 c2 h w
-            (λ row channel cell. copied song p r c r2 c2 row channel)) song
+    (with_block song.channels r2 c2 h w
+    (λ row channel cell. copied song p r c r2 c2 row channel)) song
 -- the song
 edited song (edits.Order position p) = record song { orders = set song.orders position p }
 edited song (edits.Insorder position p) = record song { orders = insert song.orders position p }
@@ -60,7 +60,7 @@ edited song (edits.Point i w k x y) =
 edited song (edits.Vib i kind sweep depth rate) =
     with_instrument i (λ (instrument : Instrument).
     record instrument
-        { vibrato = record { kind = kind; sweep = sweep; depth = depth; rate = rate } }) song
+    { vibrato = record { kind = kind; sweep = sweep; depth = depth; rate = rate } }) song
 edited song (edits.Fade i n) =
     with_instrument i (λ (instrument : Instrument). record instrument { fadeout = n }) song
 -- samples
@@ -70,8 +70,8 @@ edited song (edits.Smpname i s name) =
     with_sample i s (λ (sample : Sample). record sample { name = name }) song
 edited song (edits.Smp i s vol fine rel pan) =
     with_sample i s
-        (λ (sample : Sample).
-            record sample { volume = vol; finetune = fine; relative = rel; panning = pan }) song
+    (λ (sample : Sample).
+    record sample { volume = vol; finetune = fine; relative = rel; panning = pan }) song
 edited song (edits.Loop i s kind start len) = with_sample i s (with_loop kind start len) song
 -- frames
 edited song (edits.Cut i s from to) = with_sample i s (without_frames from to) song

@@ -112,8 +112,8 @@ sampled song i s causes = instrument_of song i ∷ sample_of song i s ∷ causes
 abbrev pub framed : Module → ℕ → ℕ → ℕ → ℕ → List (Option EditFault) → List (Option EditFault)
 framed song i s from to causes =
     sampled song i s
-        (unless (nat_le from to && nat_le to (frames_at song i s))
-            (Cut from to (frames_at song i s)) ∷ causes)
+    (unless (nat_le from to && nat_le to (frames_at song i s))
+    (Cut from to (frames_at song i s)) ∷ causes)
 
 -- how many frames a sample has at most
 abbrev pub most_frames : ℕ
@@ -137,7 +137,7 @@ causes_of song (edits.Insorder position p) =
     order_below (length song.orders + 1) position ∷ room_for 1 256 (length song.orders + 1) ∷ []
 causes_of song (edits.Delorder position) =
     order_below (length song.orders) position
-        ∷ unless (nat_lt 1 (length song.orders)) (Range 17 (pos 0)) ∷ []
+    ∷ unless (nat_lt 1 (length song.orders)) (Range 17 (pos 0)) ∷ []
 causes_of song (edits.Restart position) = order_below (length song.orders) position ∷ []
 causes_of song (edits.Tempo n) = within 4 1 31 n ∷ []
 causes_of song (edits.Bpm n) = within 5 32 255 n ∷ []
@@ -151,8 +151,8 @@ causes_of song (edits.Insname i name) = instrument_of song i ∷ []
 causes_of song (edits.Map i n k) = sounding song i (within 7 0 95 n ∷ within 13 0 15 k ∷ [])
 causes_of song (edits.Env i w count sus ls le flags) =
     sounding song i
-        (within 18 0 1 w ∷ within 6 0 12 count ∷ within 7 0 11 sus ∷ within 7 0 11 ls
-            ∷ within 7 0 11 le ∷ within 8 0 7 flags ∷ [])
+    (within 18 0 1 w ∷ within 6 0 12 count ∷ within 7 0 11 sus ∷ within 7 0 11 ls
+    ∷ within 7 0 11 le ∷ within 8 0 7 flags ∷ [])
 causes_of song (edits.Point i w k x y) =
     sounding song i (within 18 0 1 w ∷ within 7 0 11 k ∷ within 9 0 64 y ∷ [])
 causes_of song (edits.Vib i kind sweep depth rate) =
@@ -166,7 +166,7 @@ causes_of song (edits.Smp i s vol fine rel pan) = sampled song i s (within 9 0 6
 causes_of song (edits.Loop i s kind start len) =
     sampled song i s (within 10 0 2 kind
     ∷ unless (nat_eq kind 0 || (nat_lt 0 len && nat_le (start + len) (frames_at song i s)))
-        (Cut start (start + len) (frames_at song i s))
+    (Cut start (start + len) (frames_at song i s))
     ∷ [])
 -- frames
 causes_of song (edits.Cut i s from to) = framed song i s from to []

@@ -56,7 +56,7 @@ with_map n k instrument = record instrument { map = set instrument.map n k }
 abbrev pub with_envelope : ℕ → (Envelope → Envelope) → Instrument → Instrument
 with_envelope which change instrument =
     if which == 0 then record instrument { volume = change instrument.volume }
-        else record instrument { panning = change instrument.panning }
+    else record instrument { panning = change instrument.panning }
 
 abbrev pub with_head : ℕ → ℕ → ℕ → ℕ → ℕ → Envelope → Envelope
 with_head count sus ls le flags envelope =

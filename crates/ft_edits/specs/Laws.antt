@@ -37,4 +37,4 @@ BatchIsValid =
 abbrev pub VersionsAreValid : Type 0
 VersionsAreValid = (song : Module) (entries : List Entry) (version : ℕ) → IsValid song
     → All (λ (entry : Entry). All HoldsFields entry.batch) entries
-        → IsValid (module_at song entries version)
+    → IsValid (module_at song entries version)

@@ -30,18 +30,18 @@ with_rows channels n pattern =
 abbrev pub with_new_row : ℕ → ℕ → Pattern → Pattern
 with_new_row channels r pattern =
     with_cells
-        (λ cells.
-            take (length cells)
-            (take (r * channels) cells ++ (empty_rows channels 1 ++ drop (r * channels) cells)))
-        pattern
+    (λ cells.
+    take (length cells)
+    (take (r * channels) cells ++ (empty_rows channels 1 ++ drop (r * channels) cells)))
+    pattern
 
 -- a row goes, and an empty one comes last
 abbrev pub without_row : ℕ → ℕ → Pattern → Pattern
 without_row channels r =
     with_cells
     (λ cells.
-        take (r * channels) cells
-        ++ (drop (r * channels + channels) cells ++ empty_rows channels 1))
+    take (r * channels) cells
+    ++ (drop (r * channels + channels) cells ++ empty_rows channels 1))
 
 abbrev pub empty_pattern : ℕ → ℕ → Pattern
 empty_pattern channels n = record { rows = n; cells = empty_rows channels n }
@@ -57,7 +57,7 @@ abbrev pub with_block : ℕ → ℕ → ℕ → ℕ → ℕ → (ℕ → ℕ →
 with_block channels r c h w change =
     with_cells (each_from (λ place cell.
     if in_block r c h w (place / channels) (place % channels)
-        then change (place / channels) (place % channels) cell else cell) 0)
+    then change (place / channels) (place % channels) cell else cell) 0)
 
 abbrev pub is_note : ℤ → Bool
 is_note (pos note) = nat_lt 0 note && nat_le note 96

@@ -11,8 +11,8 @@ use Rattle.ft_edits.specs.Instruments.{with_instrument, named_only}
 abbrev pub with_sample : ℕ → ℕ → (Sample → Sample) → Module → Module
 with_sample i s change =
     with_instrument i
-        (λ (instrument : Instrument).
-            record instrument { samples = changed_at s change instrument.samples })
+    (λ (instrument : Instrument).
+    record instrument { samples = changed_at s change instrument.samples })
 
 -- ---- samples of an instrument
 
@@ -103,4 +103,4 @@ narrowed sample =
 abbrev pub with_bits : ℕ → Sample → Sample
 with_bits b sample =
     if b == 16 then (if sample.wide then sample else widened sample)
-        else (if sample.wide then narrowed sample else sample)
+    else (if sample.wide then narrowed sample else sample)

@@ -10,7 +10,7 @@ IsLawful song version [] = Unit {0}
 IsLawful song version (entry ∷ entries) =
     (entry.version ≡ version + 1)
     × ((next : Module) × (apply_batch song entry.batch ≡ Ok next)
-        × IsLawful next (version + 1) entries)
+    × IsLawful next (version + 1) entries)
 
 -- what a batch leaves; one that is refused leaves the song as it was
 abbrev pub left_by : Module → Result Module BatchRefusal → Module
@@ -22,7 +22,7 @@ abbrev pub module_at : Module → List Entry → ℕ → Module
 module_at song [] version = song
 module_at song (entry ∷ entries) version =
     if nat_le entry.version version
-        then module_at (left_by song (apply_batch song entry.batch)) entries version
+    then module_at (left_by song (apply_batch song entry.batch)) entries version
     else module_at song entries version
 
 -- a version is committed where it is the first, or an entry's

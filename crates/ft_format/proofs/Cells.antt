@@ -62,8 +62,8 @@ bits : (a b c d e : Bool) → Bits a b c d e (mask a b c d e)
 bits a b c d e =
     let n = bit a + 2 * (bit b + 2 * (bit c + 2 * (bit d + 2 * (bit e + 0)))) in
     let s =
-        sums (bit a) (bit b) (bit c) (bit d) (bit e) n (bit_low a) (bit_low b) (bit_low c) (bit_low d) (bit_low e) refl
-        in
+    sums (bit a) (bit b) (bit c) (bit d) (bit e) n (bit_low a) (bit_low b) (bit_low c) (bit_low d) (bit_low e) refl
+    in
     record {
       small = omega (arith, s.small);
       high = not_low n;
@@ -124,11 +124,11 @@ cell_step_fits true cell v =
     (omega (arith, v.note)) v.instrument v.volume v.effect v.parameter
 cell_step_fits false cell v =
     masked_fits (is_set cell.note) (is_set cell.instrument) (is_set cell.volume) (is_set cell.effect)
-        (is_set cell.parameter) (128 + mask_of (bytes_of_cell cell)) cell.note cell.instrument cell.volume cell.effect
-        cell.parameter
+    (is_set cell.parameter) (128 + mask_of (bytes_of_cell cell)) cell.note cell.instrument cell.volume cell.effect
+    cell.parameter
     (bits (is_set cell.note) (is_set cell.instrument) (is_set cell.volume) (is_set cell.effect) (is_set cell.parameter))
     (byte_if_fits _ cell.note refl (omega (arith, v.note))) (byte_if_fits _ cell.instrument refl v.instrument)
-        (byte_if_fits _ cell.volume refl v.volume)
+    (byte_if_fits _ cell.volume refl v.volume)
     (byte_if_fits _ cell.effect refl v.effect) (byte_if_fits _ cell.parameter refl v.parameter)
 
 pub cell_fits : (cell : Cell) → IsValidCell cell → RawCellFits (raw_cell_of cell)

@@ -130,8 +130,8 @@ pub narrow_back : (frames : List ℤ) → All (FitsSigned w8) frames → narrow_
 unfolding narrow_frames
 narrow_back frames all =
     ap (map (cast_signed w8))
-        (sums_steps 256 back_8 0 (map (cast_unsigned w8) frames) (omega arith)
-            (All-map (λ x. x < 256) (cast_unsigned w8) frames (λ k d lt. narrow_unsigned _ (all k d lt))))
+    (sums_steps 256 back_8 0 (map (cast_unsigned w8) frames) (omega arith)
+    (All-map (λ x. x < 256) (cast_unsigned w8) frames (λ k d lt. narrow_unsigned _ (all k d lt))))
     ∙ map_back (cast_signed w8) (cast_unsigned w8) frames (λ k d lt. to_z-of_z w8 _ (all k d lt))
 
 pub wide_back : (frames : List ℤ) → All (FitsSigned w16) frames → wide_frames (wide_data frames) ≡ frames
@@ -139,10 +139,10 @@ unfolding wide_frames
 wide_back frames all =
     let xs = map (cast_unsigned w16) frames in
     ap (λ (l : List ℕ). map (cast_signed w16) (sums_from 65536 0 l))
-        (pairs_back (steps_from 65536 0 xs) (steps_small_16 0 xs))
+    (pairs_back (steps_from 65536 0 xs) (steps_small_16 0 xs))
     ∙ ap (map (cast_signed w16))
-        (sums_steps 65536 back_16 0 xs (omega arith)
-            (All-map (λ x. x < 65536) (cast_unsigned w16) frames (λ k d lt. wide_unsigned _ (all k d lt))))
+    (sums_steps 65536 back_16 0 xs (omega arith)
+    (All-map (λ x. x < 65536) (cast_unsigned w16) frames (λ k d lt. wide_unsigned _ (all k d lt))))
     ∙ map_back (cast_signed w16) (cast_unsigned w16) frames (λ k d lt. to_z-of_z w16 _ (all k d lt))
 
 pub narrow_data_length : (frames : List ℤ) → length (narrow_data frames) ≡ length frames
@@ -152,7 +152,7 @@ pub wide_data_length : (frames : List ℤ) → length (wide_data frames) ≡ 2 *
 wide_data_length frames =
     let xs = map (cast_unsigned w16) frames in
     pairs_length (steps_from 65536 0 xs)
-        ∙ ap (λ (n : ℕ). 2 * n) (length_steps 65536 0 xs ∙ length-map frames (cast_unsigned w16))
+    ∙ ap (λ (n : ℕ). 2 * n) (length_steps 65536 0 xs ∙ length-map frames (cast_unsigned w16))
 
 pub narrow_data_bytes : (frames : List ℤ) → All (λ x. x < 256) (narrow_data frames)
 narrow_data_bytes frames = steps_small_8 0 (map (cast_unsigned w8) frames)

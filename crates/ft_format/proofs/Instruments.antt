@@ -160,10 +160,10 @@ envelope_kept : (e : Envelope) → IsValidEnvelope e → envelope_of e ≡ e
 unfolding envelope_of
 envelope_kept e v =
     same_envelope (map point_of e.points) e.points (min 12 e.count) (min 11 e.sustain) (min 11 e.loop_start)
-        (min 11 e.loop_end) (e.flags % 8) e.count e.sustain e.loop_start e.loop_end e.flags
+    (min 11 e.loop_end) (e.flags % 8) e.count e.sustain e.loop_start e.loop_end e.flags
     (map_kept point_of e.points (λ k d lt. point_kept _ (v.points k d lt))) (least 12 e.count v.count)
-        (least 11 e.sustain v.sustain) (least 11 e.loop_start v.loop_start) (least 11 e.loop_end v.loop_end)
-        (low_flags e.flags v.flags)
+    (least 11 e.sustain v.sustain) (least 11 e.loop_start v.loop_start) (least 11 e.loop_end v.loop_end)
+    (low_flags e.flags v.flags)
 
 abbrev make_vibrato : ℕ → ℕ → ℕ → ℕ → Vibrato
 make_vibrato kind sweep depth rate = record { kind = kind; sweep = sweep; depth = depth; rate = rate }
@@ -218,9 +218,9 @@ zero_map (x ∷ map) all =
 zero_envelope_is : (e : Envelope) → length e.points ≡ 12 → IsZeroEnvelope e → NO_ENVELOPE ≡ e
 zero_envelope_is e twelve z =
     sym (same_envelope e.points (replicate 12 (record { x = 0; y = 0 })) e.count e.sustain e.loop_start e.loop_end
-        e.flags 0 0 0 0 0
+    e.flags 0 0 0 0 0
     (zero_points e.points z.points ∙ ap (λ (n : ℕ). replicate n (record { x = 0; y = 0 })) twelve) z.count z.sustain
-        z.loop_start z.loop_end z.flags)
+    z.loop_start z.loop_end z.flags)
 
 no_samples : (l : List Sample) → length l ≡ 0 → l ≡ []
 no_samples [] e = refl
@@ -228,25 +228,25 @@ no_samples (x ∷ l) e = absurd (omega arith)
 
 means_by : (none : Bool) (i : Instrument) → (length i.samples == 0) ≡ none → IsValidInstrument i
     → instrument_with (head_if none i) (rest_of none i).extra
-        (map (λ sample. sample_from sample.header sample.steps) (rest_of none i).samples) ≡ i
+    (map (λ sample. sample_from sample.header sample.steps) (rest_of none i).samples) ≡ i
 unfolding instrument_with envelope_of vibrato_of
 means_by true i e v =
     let none = eq_is (length i.samples) 0 e in
     let z = v.without none in
     same_instrument i.name (replicate 96 0) i.map NO_ENVELOPE NO_ENVELOPE i.volume i.panning (make_vibrato 0 0 0 0)
-        i.vibrato 0 i.fadeout [] i.samples
+    i.vibrato 0 i.fadeout [] i.samples
     (sym (zero_map i.map z.map ∙ ap (λ (n : ℕ). replicate n 0) v.map_len))
     (zero_envelope_is i.volume v.volume.twelve z.volume) (zero_envelope_is i.panning v.panning.twelve z.panning)
     (sym
-        (same_vibrato i.vibrato.kind i.vibrato.sweep i.vibrato.depth i.vibrato.rate 0 0 0 0 z.kind z.sweep z.depth
-            z.rate)) (sym z.fadeout) (sym (no_samples i.samples none))
+    (same_vibrato i.vibrato.kind i.vibrato.sweep i.vibrato.depth i.vibrato.rate 0 0 0 0 z.kind z.sweep z.depth
+    z.rate)) (sym z.fadeout) (sym (no_samples i.samples none))
 means_by false i e v =
     same_instrument i.name (map (min 15) i.map) i.map (envelope_of i.volume) (envelope_of i.panning) i.volume i.panning
-        (vibrato_of i.vibrato) i.vibrato i.fadeout i.fadeout _ i.samples
+    (vibrato_of i.vibrato) i.vibrato i.fadeout i.fadeout _ i.samples
     (map_kept (min 15) i.map (λ k d lt. least 15 _ (v.map k d lt))) (envelope_kept i.volume v.volume)
-        (envelope_kept i.panning v.panning) (vibrato_kept i.vibrato v.vibrato) refl
+    (envelope_kept i.panning v.panning) (vibrato_kept i.vibrato v.vibrato) refl
     (map_back (λ sample. sample_from sample.header sample.steps) raw_sample_of i.samples
-        (λ k d lt. sample_means _ (v.samples k d lt)))
+    (λ k d lt. sample_means _ (v.samples k d lt)))
 
 pub instrument_means : (i : Instrument) → IsValidInstrument i → instrument_of (raw_instrument_of i) ≡ i
 instrument_means i v = means_by (length i.samples == 0) i refl v

@@ -31,7 +31,7 @@ cells_by false cells = flat_map-map raw_cell_text raw_cell_of cells
 
 headers_again : (samples : List Sample)
     → flat_map (λ sample. sample_header_text sample.header) (map raw_sample_of samples)
-        ≡ flat_map sample_header_bytes samples
+    ≡ flat_map sample_header_bytes samples
 headers_again samples = flat_map-map (λ sample. sample_header_text sample.header) raw_sample_of samples
 
 steps_again : (samples : List Sample)
@@ -44,19 +44,19 @@ rest_bytes none i = rest_text none (rest_of none i)
 
 some_rest : (i : Instrument)
     → rest_bytes false i
-        ≡ extra_text (extra_of i)
-            ++ (replicate UNUSED 0 ++ (flat_map sample_header_bytes i.samples ++ flat_map sample_data i.samples))
+    ≡ extra_text (extra_of i)
+    ++ (replicate UNUSED 0 ++ (flat_map sample_header_bytes i.samples ++ flat_map sample_data i.samples))
 some_rest i =
     ap
-        (λ (l : List ℕ).
-            (extra_text (extra_of i) ++ replicate UNUSED 0)
-            ++ (l ++ flat_map (λ sample. sample.steps) (map raw_sample_of i.samples))) (headers_again i.samples)
+    (λ (l : List ℕ).
+    (extra_text (extra_of i) ++ replicate UNUSED 0)
+    ++ (l ++ flat_map (λ sample. sample.steps) (map raw_sample_of i.samples))) (headers_again i.samples)
     ∙ ap
-        (λ (l : List ℕ).
-            (extra_text (extra_of i) ++ replicate UNUSED 0) ++ (flat_map sample_header_bytes i.samples ++ l))
-        (steps_again i.samples)
+    (λ (l : List ℕ).
+    (extra_text (extra_of i) ++ replicate UNUSED 0) ++ (flat_map sample_header_bytes i.samples ++ l))
+    (steps_again i.samples)
     ∙ append_assoc (extra_text (extra_of i)) (replicate UNUSED 0)
-        (flat_map sample_header_bytes i.samples ++ flat_map sample_data i.samples)
+    (flat_map sample_header_bytes i.samples ++ flat_map sample_data i.samples)
 
 is_none : (n : ℕ) → n ≡ 0 → nat_eq n 0 ≡ true
 is_none n e = rw e refl
@@ -72,9 +72,9 @@ without_parts i e =
 
 with_parts : (i : Instrument) → 1 ≤ length i.samples
     → instrument_bytes i
-        ≡ head_text (instrument_head_of i)
-            ++ (extra_text (extra_of i)
-                ++ (replicate UNUSED 0 ++ (flat_map sample_header_bytes i.samples ++ flat_map sample_data i.samples)))
+    ≡ head_text (instrument_head_of i)
+    ++ (extra_text (extra_of i)
+    ++ (replicate UNUSED 0 ++ (flat_map sample_header_bytes i.samples ++ flat_map sample_data i.samples)))
 unfolding instrument_text
 with_parts i le =
     ap (λ (none : Bool). head_text (instrument_head_of i) ++ rest_bytes none i) (is_some (length i.samples) le)
@@ -82,22 +82,22 @@ with_parts i le =
 
 file_parts : (song : Module)
     → canon song
-        ≡ header_bytes song ++ (flat_map pattern_bytes song.patterns ++ flat_map instrument_bytes song.instruments)
+    ≡ header_bytes song ++ (flat_map pattern_bytes song.patterns ++ flat_map instrument_bytes song.instruments)
 unfolding canon song_text
 file_parts song =
     ap
-        (λ (l : List ℕ).
-            identification_with 77
-            ++ (header_text (raw_header_of song)
-                ++ (l ++ flat_map instrument_text (map raw_instrument_of song.instruments))))
-        (flat_map-map pattern_text raw_pattern_of song.patterns)
+    (λ (l : List ℕ).
+    identification_with 77
+    ++ (header_text (raw_header_of song)
+    ++ (l ++ flat_map instrument_text (map raw_instrument_of song.instruments))))
+    (flat_map-map pattern_text raw_pattern_of song.patterns)
     ∙ ap
-        (λ (l : List ℕ).
-            identification_with 77 ++ (header_text (raw_header_of song) ++ (flat_map pattern_bytes song.patterns ++ l)))
-        (flat_map-map instrument_text raw_instrument_of song.instruments)
+    (λ (l : List ℕ).
+    identification_with 77 ++ (header_text (raw_header_of song) ++ (flat_map pattern_bytes song.patterns ++ l)))
+    (flat_map-map instrument_text raw_instrument_of song.instruments)
     ∙ sym
-        (append_assoc (identification_with 77) (header_text (raw_header_of song))
-            (flat_map pattern_bytes song.patterns ++ flat_map instrument_bytes song.instruments))
+    (append_assoc (identification_with 77) (header_text (raw_header_of song))
+    (flat_map pattern_bytes song.patterns ++ flat_map instrument_bytes song.instruments))
 
 pub parts : CanonicalParts
 parts =
@@ -115,7 +115,7 @@ unfolding header_text
 header_length song v =
     simp length-append
     (omega
-        (arith, v.name.len, v.tracker.len, v.few_orders, length-replicate {A = ℕ} (ORDER_TABLE - length song.orders) 0))
+    (arith, v.name.len, v.tracker.len, v.few_orders, length-replicate {A = ℕ} (ORDER_TABLE - length song.orders) 0))
 
 head_length : (i : Instrument) → IsValidInstrument i → length (head_text (instrument_head_of i)) ≡ 29
 head_length i v = simp length-append (omega (arith, v.name.len))
@@ -125,7 +125,7 @@ without_length i v e = ap length (without_parts i e) ∙ head_length i v
 
 with_length : (i : Instrument) → IsValidInstrument i → 1 ≤ length i.samples
     → length (instrument_bytes i)
-        ≡ 263 + length (flat_map sample_header_bytes i.samples) + length (flat_map sample_data i.samples)
+    ≡ 263 + length (flat_map sample_header_bytes i.samples) + length (flat_map sample_data i.samples)
 with_length i v le =
     let headers = flat_map sample_header_bytes i.samples in
     let steps = flat_map sample_data i.samples in
@@ -145,13 +145,18 @@ with_length i v le =
 
 file_length : (song : Module) → IsValid song
     → length (canon song)
-        ≡ 336 + length (flat_map pattern_bytes song.patterns) + length (flat_map instrument_bytes song.instruments)
+    ≡ 336 + length (flat_map pattern_bytes song.patterns) + length (flat_map instrument_bytes song.instruments)
 file_length song v =
     let patterns = flat_map pattern_bytes song.patterns in
     let instruments = flat_map instrument_bytes song.instruments in
-    omega
-        (arith, ap length (file_parts song), length-append (header_bytes song) (patterns ++ instruments), length-append
-            patterns instruments, header_length song v)
+    omega (
+      arith,
+      ap length (file_parts song),
+      length-append (header_bytes song) (patterns ++ instruments),
+      length-append
+          patterns instruments,
+      header_length song v,
+    )
 
 pub sizes : CanonicalSizes
 sizes = record {

@@ -36,7 +36,7 @@ cell_is_empty cell e =
     let d = and_split (nat_eq cell.effect 0) _ c.1 in
     let f = and_split (nat_eq cell.parameter 0) true d.1 in
     zero_cell cell (eq_is cell.note 0 a.0) (eq_is cell.instrument 0 b.0) (eq_is cell.volume 0 c.0)
-        (eq_is cell.effect 0 d.0) (eq_is cell.parameter 0 f.0)
+    (eq_is cell.effect 0 d.0) (eq_is cell.parameter 0 f.0)
 
 cells_are_empty : (cells : List Cell) → list_all is_empty_cell cells ≡ true
     → cells ≡ replicate (length cells) EMPTY_CELL
@@ -44,7 +44,7 @@ cells_are_empty [] e = refl
 cells_are_empty (cell ∷ cells) e =
     let s = and_split (is_empty_cell cell) (list_all is_empty_cell cells) e in
     ap (λ (c : Cell). c ∷ cells) (cell_is_empty cell s.0)
-        ∙ ap (λ (l : List Cell). EMPTY_CELL ∷ l) (cells_are_empty cells s.1)
+    ∙ ap (λ (l : List Cell). EMPTY_CELL ∷ l) (cells_are_empty cells s.1)
 
 byte_if_length : (b : Bool) (x : ℕ) → length (byte_if_text b x) ≤ 1
 byte_if_length true x = omega arith
@@ -57,9 +57,19 @@ note_length false first note = byte_if_length _ note
 six_parts : (a b c d e : List ℕ) → length a ≤ 1 → length b ≤ 1 → length c ≤ 1 → length d ≤ 1 → length e ≤ 1
     → suc (length (a ++ (b ++ (c ++ (d ++ e))))) ≤ 6
 six_parts a b c d e la lb lc ld le =
-    omega
-    (arith, la, lb, lc, ld, le, length-append a (b ++ (c ++ (d ++ e))), length-append b (c ++ (d ++ e)), length-append c
-        (d ++ e), length-append d e)
+    omega (
+      arith,
+      la,
+      lb,
+      lc,
+      ld,
+      le,
+      length-append a (b ++ (c ++ (d ++ e))),
+      length-append b (c ++ (d ++ e)),
+      length-append c
+          (d ++ e),
+      length-append d e,
+    )
 
 at_least_one : (raw : RawCell) → 1 ≤ length (raw_cell_text raw)
 unfolding raw_cell_text
@@ -70,9 +80,9 @@ unfolding raw_cell_text
 at_most_six raw =
     let low = nat_lt raw.first 128 in
     six_parts (note_text low raw.first raw.cell.note) (byte_if_text (has raw.first 2) raw.cell.instrument)
-        (byte_if_text (has raw.first 4) raw.cell.volume) (byte_if_text (has raw.first 8) raw.cell.effect)
+    (byte_if_text (has raw.first 4) raw.cell.volume) (byte_if_text (has raw.first 8) raw.cell.effect)
     (byte_if_text (has raw.first 16) raw.cell.parameter) (note_length low raw.first raw.cell.note)
-        (byte_if_length (has raw.first 2) raw.cell.instrument) (byte_if_length (has raw.first 4) raw.cell.volume)
+    (byte_if_length (has raw.first 2) raw.cell.instrument) (byte_if_length (has raw.first 4) raw.cell.volume)
     (byte_if_length (has raw.first 8) raw.cell.effect) (byte_if_length (has raw.first 16) raw.cell.parameter)
 
 data_le : (raws : List RawCell) → length (flat_map raw_cell_text raws) ≤ 6 * length raws
@@ -135,8 +145,8 @@ written true count cells e len some all = record {
 written false count cells e len some all =
     let raws = map raw_cell_of cells in
     let full =
-        not_zero (length (flat_map raw_cell_text raws))
-        (some_data raws (omega (arith, length-map cells raw_cell_of, len, some))) in
+    not_zero (length (flat_map raw_cell_text raws))
+    (some_data raws (omega (arith, length-map cells raw_cell_of, len, some))) in
     record {
       fits = full_fits count (length (flat_map raw_cell_text raws)) raws full (length-map cells raw_cell_of ∙ len)
           (All-map RawCellFits raw_cell_of cells (λ k d lt. cell_fits _ (all k d lt))) refl;
@@ -157,9 +167,9 @@ written_pattern : (channels : ℕ) (pattern : Pattern) → 1 ≤ channels → Is
 written_pattern channels pattern some v =
     let rows = same_rows pattern.rows v.some_rows in
     written (list_all is_empty_cell pattern.cells) (cond (nat_eq pattern.rows 0) 64 pattern.rows * channels)
-        pattern.cells refl
+    pattern.cells refl
     (v.whole ∙ ap (λ (n : ℕ). n * channels) (sym rows)) (rw rows (some_product pattern.rows channels v.some_rows some))
-        v.cells
+    v.cells
 
 pub pattern_fits : (channels : ℕ) (pattern : Pattern) → 1 ≤ channels → channels ≤ 32 → IsValidPattern channels pattern
     → RawPatternFits channels (raw_pattern_of pattern)

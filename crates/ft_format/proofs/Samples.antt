@@ -92,12 +92,12 @@ loop_by : (none : Bool) (frames kind start len : ℕ) → nat_eq kind 0 ≡ none
 loop_by true frames kind start len e z y s w =
     let zero : kind ≡ 0 = grind (arith, nat_tests) in
     record {
-          in_start = omega (arith, z zero);
-          in_len = omega (arith, z zero, y zero);
-          none_len = y;
-          none_start = z;
-          some = s;
-        }
+      in_start = omega (arith, z zero);
+      in_len = omega (arith, z zero, y zero);
+      none_len = y;
+      none_start = z;
+      some = s;
+    }
 loop_by false frames kind start len e z y s w =
     let more : 1 ≤ kind = grind (arith, nat_tests) in
     record { in_start = omega (arith, w more); in_len = w more; none_len = y; none_start = z; some = s }
@@ -158,7 +158,7 @@ make name volume finetune relative panning wide kind start len frames = record {
 same_sample :
     (sample : Sample) (volume : ℕ) (finetune relative : ℤ) (wide : Bool) (kind start len : ℕ) (frames : List ℤ)
     → volume ≡ sample.volume → finetune ≡ sample.finetune → relative ≡ sample.relative → wide ≡ sample.wide
-        → kind ≡ sample.loop_kind → start ≡ sample.loop_start → len ≡ sample.loop_len → frames ≡ sample.frames
+    → kind ≡ sample.loop_kind → start ≡ sample.loop_start → len ≡ sample.loop_len → frames ≡ sample.frames
     → make sample.name volume finetune relative sample.panning wide kind start len frames ≡ sample
 same_sample sample volume finetune relative wide kind start len frames z a b c d e f g =
     rw (z, a, b, c, d, e, f, g) refl
@@ -202,9 +202,11 @@ sample_fits sample v =
         name = field_of 22 sample.name v.name;
         mono = k.mono;
         few_frames =
-            omega
-            (arith, in_frames_again (is_wide (sample_header_of sample)) sample.wide (length sample.frames) k.bits,
-                v.few_frames);
+            omega (
+              arith,
+              in_frames_again (is_wide (sample_header_of sample)) sample.wide (length sample.frames) k.bits,
+              v.few_frames,
+            );
       };
       steps = (w.len, bytes_of (sample_data sample) w.bytes);
     }
@@ -219,18 +221,18 @@ sample_means sample v =
     let w = written_sample sample v in
     let n = in_frames_again (is_wide h) sample.wide (length sample.frames) k.bits in
     let s =
-        start_again (length sample.frames) sample.loop_start (frame_count h) _ n
-        (in_frames_again (is_wide h) sample.wide sample.loop_start k.bits) l.in_start in
+    start_again (length sample.frames) sample.loop_start (frame_count h) _ n
+    (in_frames_again (is_wide h) sample.wide sample.loop_start k.bits) l.in_start in
     let m =
-        len_again (length sample.frames) sample.loop_start sample.loop_len (frame_count h) (loop_start_of h) _ n s
-        (in_frames_again (is_wide h) sample.wide sample.loop_len k.bits) l.in_len in
+    len_again (length sample.frames) sample.loop_start sample.loop_len (frame_count h) (loop_start_of h) _ n s
+    (in_frames_again (is_wide h) sample.wide sample.loop_len k.bits) l.in_len in
     let t =
-        kept (length sample.frames) (loop_kind_of h) (loop_start_of h) (loop_len_of h) sample.loop_kind
-        sample.loop_start sample.loop_len k.loop s m l in
+    kept (length sample.frames) (loop_kind_of h) (loop_start_of h) (loop_len_of h) sample.loop_kind
+    sample.loop_start sample.loop_len k.loop s m l in
     same_sample sample (min 64 sample.volume) (cast_signed w8 (cast_unsigned w8 sample.finetune))
-        (cast_signed w8 (cast_unsigned w8 sample.relative)) (is_wide h) _ _ _ _
+    (cast_signed w8 (cast_unsigned w8 sample.relative)) (is_wide h) _ _ _ _
     (least 64 sample.volume v.volume) (to_z-of_z w8 sample.finetune v.finetune)
-        (to_z-of_z w8 sample.relative v.relative) k.bits t.same_kind t.same_start t.same_len
+    (to_z-of_z w8 sample.relative v.relative) k.bits t.same_kind t.same_start t.same_len
     (frames_again (is_wide h) sample.wide (sample_data sample) sample.frames k.bits w.means)
 
 -- ---- sizes

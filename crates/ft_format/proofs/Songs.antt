@@ -32,7 +32,7 @@ table_bytes : (orders : List ℕ) → All (λ order. order < 256) orders → Are
 table_bytes orders h =
     bytes_of (order_table orders)
     (All-append (λ byte. byte < 256) orders (replicate (256 - length orders) 0) h
-        (All-replicate (λ byte. byte < 256) (256 - length orders) 0 (omega arith)))
+    (All-replicate (λ byte. byte < 256) (256 - length orders) 0 (omega arith)))
 
 small_flags : (linear : Bool) → cond linear 1 0 < 65536
 small_flags true = omega arith
@@ -90,9 +90,9 @@ make name tracker restart channels linear tempo bpm orders patterns instruments 
 
 same_song :
     (song : Module) (restart : ℕ) (linear : Bool) (tempo bpm : ℕ) (orders : List ℕ) (patterns : List Pattern)
-        (instruments : List Instrument)
+    (instruments : List Instrument)
     → restart ≡ song.restart → linear ≡ song.linear → tempo ≡ song.tempo → bpm ≡ song.bpm → orders ≡ song.orders
-        → patterns ≡ song.patterns → instruments ≡ song.instruments
+    → patterns ≡ song.patterns → instruments ≡ song.instruments
     → make song.name song.tracker restart song.channels linear tempo bpm orders patterns instruments ≡ song
 same_song song restart linear tempo bpm orders patterns instruments a b c d e f g = rw (a, b, c, d, e, f, g) refl
 
@@ -122,14 +122,14 @@ song_means song v =
     let n = max 1 (length song.orders) in
     let channels = song.channels in
     same_song song (cond (nat_lt song.restart n) song.restart 0) ((settings_of song).flags % 2 == 1)
-        (brought 1 31 song.tempo) (brought 32 255 song.bpm) (orders_of n (order_table song.orders))
+    (brought 1 31 song.tempo) (brought 32 255 song.bpm) (orders_of n (order_table song.orders))
     (map (pattern_of channels) (map raw_pattern_of song.patterns))
-        (map instrument_of (map raw_instrument_of song.instruments))
+    (map instrument_of (map raw_instrument_of song.instruments))
     (kept_restart song.restart n (omega (arith, v.restart))) (linear_again song.linear)
-        (in_range 1 31 song.tempo v.some_tempo v.low_tempo) (in_range 32 255 song.bpm v.some_bpm v.low_bpm)
+    (in_range 1 31 song.tempo v.some_tempo v.low_tempo) (in_range 32 255 song.bpm v.some_bpm v.low_bpm)
     (orders_again song.orders v.some_orders)
     (map_back (pattern_of channels) raw_pattern_of song.patterns
-        (λ k d lt. pattern_means channels _ v.some_channels (v.patterns k d lt)))
+    (λ k d lt. pattern_means channels _ v.some_channels (v.patterns k d lt)))
     (map_back instrument_of raw_instrument_of song.instruments (λ k d lt. instrument_means _ (v.instruments k d lt)))
 
 text_again : (song : Module) → canon song ≡ song_text (raw_song_of song) ++ []

@@ -81,8 +81,8 @@ pattern_valid : (channels : ℕ) (raw : RawPattern) → RawPatternFits channels 
 unfolding pattern_of
 pattern_valid channels raw fits =
     let d =
-        data_valid (raw.head.packed == 0) (rows_of raw.head * channels) raw.head.packed (raw.cells, raw.surplus)
-        fits.cells in
+    data_valid (raw.head.packed == 0) (rows_of raw.head * channels) raw.head.packed (raw.cells, raw.surplus)
+    fits.cells in
     record {
       some_rows = some_rows raw.head.rows;
       few_rows = few_rows raw.head.rows fits.head.rows;
@@ -146,10 +146,10 @@ sample_valid raw fits =
     let h = raw.header in
     let f = frames_valid (is_wide h) raw.steps in
     let count : cond (is_wide h) (length raw.steps / 2) (length raw.steps) ≡ frame_count h =
-        ap (λ (n : ℕ). cond (is_wide h) (n / 2) n) fits.steps.0 in
+    ap (λ (n : ℕ). cond (is_wide h) (n / 2) n) fits.steps.0 in
     let l =
-        loop_valid (is_unlooped h) (frame_count h) (loop_kind_of h) (loop_start_of h) (loop_len_of h) refl
-        (min_low 2 (h.kind % 4)) (min_low (frame_count h) _) (min_low (frame_count h - loop_start_of h) _) in
+    loop_valid (is_unlooped h) (frame_count h) (loop_kind_of h) (loop_start_of h) (loop_len_of h) refl
+    (min_low 2 (h.kind % 4)) (min_low (frame_count h) _) (min_low (frame_count h - loop_start_of h) _) in
     record {
       name = are_bytes 22 h.name fits.header.name;
       volume = min_low 64 h.volume;
@@ -203,9 +203,9 @@ vibrato_valid v fits =
 zero_fits : ExtraFits NO_EXTRA
 zero_fits =
     let points : AllFit 12 PointFits NO_ENVELOPE.points =
-        record
-        { count = refl; each = All-replicate PointFits 12 (record { x = 0; y = 0 }) (record { x = omega arith; y = omega arith }) }
-        in
+    record
+    { count = refl; each = All-replicate PointFits 12 (record { x = 0; y = 0 }) (record { x = omega arith; y = omega arith }) }
+    in
     record {
       header_size = omega arith;
       map = (refl, bytes_of (replicate 96 0) (All-replicate (λ byte. byte < 256) 96 0 (omega arith)));
@@ -248,7 +248,7 @@ zero_zero head =
 with_valid : (head : InstrumentHead) (extra : Extra) (samples : List Sample) → IsField 22 head.name → ExtraFits extra
     → length samples ≤ 16 → All IsValidSample samples
     → (length samples ≡ 0 → IsZeroInstrument (instrument_with head extra samples))
-        → IsValidInstrument (instrument_with head extra samples)
+    → IsValidInstrument (instrument_with head extra samples)
 unfolding instrument_with
 with_valid head extra samples name fits few all without = record {
   name = are_bytes 22 head.name name;
@@ -274,12 +274,12 @@ rest_valid : (none : Bool) (head : InstrumentHead) (rest : RawRest) → (head.sa
     → IsValidInstrument (instrument_with head rest.extra (map sample_in rest.samples))
 rest_valid true head rest e h fits =
     let zero : instrument_with head NO_EXTRA [] ≡ instrument_with head rest.extra (map sample_in rest.samples) =
-        rw (fits.extra, fits.samples) refl in
+    rw (fits.extra, fits.samples) refl in
     subst IsValidInstrument zero
-        (with_valid head NO_EXTRA [] h.name zero_fits (omega arith) (All-nil IsValidSample) (λ _. zero_zero head))
+    (with_valid head NO_EXTRA [] h.name zero_fits (omega arith) (All-nil IsValidSample) (λ _. zero_zero head))
 rest_valid false head rest e h fits =
     let count : length (map sample_in rest.samples) ≡ head.samples =
-        length-map rest.samples sample_in ∙ fits.samples.count in
+    length-map rest.samples sample_in ∙ fits.samples.count in
     with_valid head rest.extra (map sample_in rest.samples) h.name fits.extra.fits (omega (arith, count, h.samples))
     (All-map IsValidSample sample_in rest.samples (λ k d lt. sample_valid _ (fits.samples.each k d lt)))
     (λ z. absurd (not_empty head.samples e (sym count ∙ z)))
@@ -294,19 +294,24 @@ restart_low restart n some = grind (arith, nat_tests)
 
 order_count : (n : ℕ) (table : List ℕ) → n ≤ 256 → length (orders_of n table) ≡ n
 order_count n table few =
-    omega
-    (arith, few, length-take n (table ++ replicate 256 0), length-append table (replicate 256 0), length-replicate
-        {A = ℕ} 256 0)
+    omega (
+      arith,
+      few,
+      length-take n (table ++ replicate 256 0),
+      length-append table (replicate 256 0),
+      length-replicate
+          {A = ℕ} 256 0,
+    )
 
 order_bytes : (n : ℕ) (table : List ℕ) → All (λ byte. byte < 256) table → All (λ byte. byte < 256) (orders_of n table)
 order_bytes n table all =
     All-take (λ byte. byte < 256) n (table ++ replicate 256 0)
     (All-append (λ byte. byte < 256) table (replicate 256 0) all
-        (All-replicate (λ byte. byte < 256) 256 0 (omega arith)))
+    (All-replicate (λ byte. byte < 256) 256 0 (omega arith)))
 
 header_valid : (raw : RawHeader) (patterns : List Pattern) (instruments : List Instrument) → HeaderFits raw
     → length patterns ≡ raw.settings.patterns → All (IsValidPattern raw.sizes.channels) patterns
-        → length instruments ≡ raw.settings.instruments → All IsValidInstrument instruments
+    → length instruments ≡ raw.settings.instruments → All IsValidInstrument instruments
     → IsValid (song_from raw patterns instruments)
 unfolding song_from
 header_valid raw patterns instruments fits many ps all is =
@@ -339,7 +344,7 @@ module_valid raw fits =
     header_valid raw.header (map (pattern_of channels) raw.patterns) (map instrument_of raw.instruments) fits.header
     (length-map raw.patterns (pattern_of channels) ∙ fits.patterns_count)
     (All-map (IsValidPattern channels) (pattern_of channels) raw.patterns
-        (λ k d lt. pattern_valid channels _ (fits.patterns k d lt)))
+    (λ k d lt. pattern_valid channels _ (fits.patterns k d lt)))
     (length-map raw.instruments instrument_of ∙ fits.instruments_count)
     (All-map IsValidInstrument instrument_of raw.instruments (λ k d lt. instrument_valid _ (fits.instruments k d lt)))
 

@@ -25,7 +25,7 @@ titles_text titles = titles.name ++ (byte titles.mark ++ titles.tracker)
 abbrev pub sizes_text : Sizes → List ℕ
 sizes_text sizes =
     u16 VERSION
-        ++ (u32 sizes.size ++ (u16 sizes.length ++ (u16 sizes.restart ++ u16 sizes.channels)))
+    ++ (u32 sizes.size ++ (u16 sizes.length ++ (u16 sizes.restart ++ u16 sizes.channels)))
 
 abbrev pub settings_text : Settings → List ℕ
 settings_text settings = u16 settings.patterns

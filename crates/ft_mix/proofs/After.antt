@@ -34,7 +34,7 @@ not_false false e = absurd cc
 turn_most : (head : SampleHead) → 1 ≤ head.loop_len → (1 ≤ loop_turn head) × (loop_turn head ≤ 2 * head.loop_len)
 turn_most head some =
     cond_both (head.loop_kind == 2) (max 1 (2 * head.loop_len - 2)) head.loop_len
-        (λ (n : ℕ). (1 ≤ n) × (n ≤ 2 * head.loop_len))
+    (λ (n : ℕ). (1 ≤ n) × (n ≤ 2 * head.loop_len))
     (λ there. (omega arith, omega arith))
     (λ forward. (some, omega arith))
 
@@ -46,21 +46,21 @@ unfolding brought_back
 back_in_range head position v on =
     cond_both ((head.loop_kind == 0) || ltb (position / 2 ^ 32) (head.loop_start + head.loop_len)) position
     ((head.loop_start + (position / 2 ^ 32 - head.loop_start) % loop_turn head) * 2 ^ 32 + position % 2 ^ 32)
-        (λ (n : ℕ). n < 2 * head.frames * 2 ^ 32)
+    (λ (n : ℕ). n < 2 * head.frames * 2 ^ 32)
     (λ before.
     or_cases (head.loop_kind == 0) (ltb (position / 2 ^ 32) (head.loop_start + head.loop_len)) before
     (λ none. let lt = on (eqb-true head.loop_kind 0 none) in omega arith)
     (λ within.
     let lt = ltb-true (position / 2 ^ 32) (head.loop_start + head.loop_len) within in
     by_zero head.loop_kind (λ none. let less = on none in omega arith)
-        (λ some. let fits = v.looping.within some in omega arith)))
+    (λ some. let fits = v.looping.within some in omega arith)))
     (λ past.
     let parts = or_parts (head.loop_kind == 0) (ltb (position / 2 ^ 32) (head.loop_start + head.loop_len)) past in
     let other : head.loop_kind ≢ 0 = eqb-false head.loop_kind 0 parts.0 in
     let some : 1 ≤ head.loop_kind = omega arith in
     let turn = turn_most head (v.looping.some_len some) in
     let low : (position / 2 ^ 32 - head.loop_start) % loop_turn head < loop_turn head =
-        mod_below (position / 2 ^ 32 - head.loop_start) (loop_turn head) turn.0 in
+    mod_below (position / 2 ^ 32 - head.loop_start) (loop_turn head) turn.0 in
     let fits = v.looping.within some in
     let most = turn.1 in
     omega arith)
@@ -85,7 +85,7 @@ all_after : (P : Voice → Type 0) (frames : ℕ) (voice : Voice) (voices : List
     → All P (voices_after frames voices) → All P (voices_after frames (voice ∷ voices))
 all_after P frames voice voices first rest =
     cond_both (is_ended frames voice) (voices_after frames voices)
-        (voice_after frames voice ∷ voices_after frames voices) (All P)
+    (voice_after frames voice ∷ voices_after frames voices) (All P)
     (λ ended. rest)
     (λ on. All-cons P (voice_after frames voice) (voices_after frames voices) (first on) rest)
 
@@ -94,7 +94,7 @@ pub voices_in_range : (frames : ℕ) (voices : List Voice) → All IsVoiceInRang
 voices_in_range frames [] all = All-nil IsVoiceInRange
 voices_in_range frames (voice ∷ voices) all =
     all_after IsVoiceInRange frames voice voices
-        (voice_in_range frames voice (All-head IsVoiceInRange voice voices all))
+    (voice_in_range frames voice (All-head IsVoiceInRange voice voices all))
     (voices_in_range frames voices (All-tail IsVoiceInRange voice voices all))
 
 -- ---- channels
@@ -104,7 +104,7 @@ pub as_many : (frames : ℕ) (voices : List Voice) (holds : List Bool)
 as_many frames [] holds = refl
 as_many frames (voice ∷ voices) holds =
     cond_both (is_ended frames voice) (holds_after frames voices (set holds voice.channel false))
-        (holds_after frames voices holds) (λ (l : List Bool). length l ≡ length holds)
+    (holds_after frames voices holds) (λ (l : List Bool). length l ≡ length holds)
     (λ ended. as_many frames voices (set holds voice.channel false) ∙ length-set holds voice.channel false)
     (λ on. as_many frames voices holds)
 
@@ -124,7 +124,7 @@ ascending_after frames low high (voice ∷ voices) p =
     let rest = ascending_after frames (voice.channel + 1) high voices p.2 in
     let above = p.0 in
     cond_both (is_ended frames voice) (voices_after frames voices)
-        (voice_after frames voice ∷ voices_after frames voices) (IsAscending low high)
+    (voice_after frames voice ∷ voices_after frames voices) (IsAscending low high)
     (λ ended. ascending_from low (voice.channel + 1) high (voices_after frames voices) (omega arith) rest)
     (λ on. (p.0, p.1, rest))
 
@@ -154,17 +154,19 @@ mixed_after keeps keeps_after channels frames low high (voice ∷ voices) p all 
     let above = p.0 in
     let first = All-head (IsMixed keeps channels) voice voices all in
     let later : (c : ℕ) (h : SampleHead) → voice.channel + 1 ≤ c → SoundsOn frames voices c → keeps c h
-        → keeps_after c h =
+    → keeps_after c h =
     λ c h le on k. let other : c ≢ voice.channel = omega arith in stays c h (omega arith) (λ ended. other, on) k in
     all_after (IsMixed keeps_after channels) frames voice voices
     (λ on. record {
       channel = first.channel;
       kept =
-          stays voice.channel voice.head p.0
-          (λ ended.
-              absurd (false_true (sym on ∙ ended)), sounds_below frames (voice.channel + 1) high voice.channel voices
-              p.2 (omega arith)) first.kept;
+          stays voice.channel voice.head p.0 (
+            λ ended.
+                absurd (false_true (sym on ∙ ended)),
+            sounds_below frames (voice.channel + 1) high voice.channel voices
+                p.2 (omega arith),
+          ) first.kept;
       range = voice_in_range frames voice first.range on;
     })
     (mixed_after keeps keeps_after channels frames (voice.channel + 1) high voices p.2
-        (All-tail (IsMixed keeps channels) voice voices all) later)
+    (All-tail (IsMixed keeps channels) voice voices all) later)

@@ -25,7 +25,7 @@ cost_at : (word newest : ℕ) (older : List ℕ) → newest ≤ word → word �
 unfolding frame_cost
 cost_at word newest older low high =
     cond_both (is_kept word (newest ∷ older)) 0 (if is_near word (newest ∷ older) then 1 else 3)
-        (λ (n : ℕ). n ≤ (word - newest) + 2 * (body_of word - body_of newest))
+    (λ (n : ℕ). n ≤ (word - newest) + 2 * (body_of word - body_of newest))
     (λ kept. omega arith)
     (λ other.
     let parts = or_parts (word == newest) (is_kept word older) other in
@@ -42,10 +42,10 @@ pub next_cost : (word newest : ℕ) (words : List ℕ) → newest ≤ word → w
 next_cost word newest [] low high = cost_at word newest [] low high
 next_cost word newest (first ∷ older) low high =
     cond_both (newest == first) (first ∷ older) (newest ∷ first ∷ [])
-        (λ (l : List ℕ). frame_cost word l ≤ (word - newest) + 2 * (body_of word - body_of newest))
+    (λ (l : List ℕ). frame_cost word l ≤ (word - newest) + 2 * (body_of word - body_of newest))
     (λ same.
-        subst (λ (n : ℕ). frame_cost word (n ∷ older) ≤ (word - newest) + 2 * (body_of word - body_of newest))
-        (eqb-true newest first same) (cost_at word newest older low high))
+    subst (λ (n : ℕ). frame_cost word (n ∷ older) ≤ (word - newest) + 2 * (body_of word - body_of newest))
+    (eqb-true newest first same) (cost_at word newest older low high))
     (λ other. cost_at word newest (first ∷ []) low high)
 
 -- ---- places of a sample without loop
@@ -61,11 +61,11 @@ pub place_before : (head : SampleHead) (i end : ℕ) → end ≡ end_of head →
 unfolding place_of
 place_before head i end e lt =
     ap
-        (λ (b : Bool).
-            if b then Some i
-            else
-                (if head.loop_kind == 0 then None
-                    else Some (head.loop_start + reflected head ((i - head.loop_start) % loop_turn head))))
+    (λ (b : Bool).
+    if b then Some i
+    else
+    (if head.loop_kind == 0 then None
+    else Some (head.loop_start + reflected head ((i - head.loop_start) % loop_turn head))))
     (lt-ltb i (end_of head) (subst (λ (n : ℕ). i < n) e lt))
 
 pub place_within : (head : SampleHead) (i : ℕ) → head.loop_kind ≡ 0 → i < head.frames → place_of head i ≡ Some i
@@ -110,12 +110,12 @@ goes_on head at next work before after kept kept_after none from newest so_far a
     let a = asks (next + 1) (place_within head (next + 1) none lt) in
     let n = newest (omega arith) in
     let step : frame_cost (word_of (next + 1)) kept
-        ≤ (word_of (next + 1) - word_of next) + 2 * (body_of (word_of (next + 1)) - body_of (word_of next)) =
+    ≤ (word_of (next + 1) - word_of next) + 2 * (body_of (word_of (next + 1)) - body_of (word_of next)) =
     subst
-        (λ (l : List ℕ).
-            frame_cost (word_of (next + 1)) l
-            ≤ (word_of (next + 1) - word_of next) + 2 * (body_of (word_of (next + 1)) - body_of (word_of next)))
-        (sym n.1)
+    (λ (l : List ℕ).
+    frame_cost (word_of (next + 1)) l
+    ≤ (word_of (next + 1) - word_of next) + 2 * (body_of (word_of (next + 1)) - body_of (word_of next)))
+    (sym n.1)
     (next_cost (word_of (next + 1)) (word_of next) n.0 (omega arith) (omega arith)) in
     omega arith)
     (λ le. let same = rests (place_past head (next + 1) none le) in omega arith)

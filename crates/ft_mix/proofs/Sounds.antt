@@ -30,7 +30,7 @@ sound_of_frames kept voices (suc frames) out room s =
     ∙ ap (λ (l : List ℤ). l ++ get_or out (2 * frames) (pos 0) ∷ get_or out (suc (2 * frames)) (pos 0) ∷ []) before
     ∙ ap (λ (x : ℤ). sound_of_voices kept voices frames ++ x ∷ get_or out (suc (2 * frames)) (pos 0) ∷ []) even
     ∙ ap (λ (x : ℤ). sound_of_voices kept voices frames ++ clipped (voices_sum (left_of frames) kept voices) ∷ x ∷ [])
-        odd
+    odd
 
 -- and where they are all frames
 pub sound_is : (kept : List (Option Owned)) (voices : List Voice) (frames : ℕ) (out : List ℤ) → length out ≡ 2 * frames
@@ -38,7 +38,7 @@ pub sound_is : (kept : List (Option Owned)) (voices : List Voice) (frames : ℕ)
     → out ≡ sound_of_voices kept voices frames
 sound_is kept voices frames out many s =
     sym (ap (λ (n : ℕ). take n out) (sym many) ∙ take_all (length out) out (omega arith))
-        ∙ sound_of_frames kept voices frames out (omega arith) s
+    ∙ sound_of_frames kept voices frames out (omega arith) s
 
 -- ---- block by block
 
@@ -53,7 +53,7 @@ by_lt {P} a b f g = by (ltb a b) refl
 same_frame : (kept : List (Option Owned)) (voices : List Voice) (k first : ℕ) (out out_after : List ℤ) → k < first
     → ((j : ℕ) → j < 2 * first → get_or out_after j (pos 0) ≡ get_or out j (pos 0))
     → IsFrame (voices_sum (left_of k) kept voices) (voices_sum (right_of k) kept voices) k out
-        → IsFrame (voices_sum (left_of k) kept voices) (voices_sum (right_of k) kept voices) k out_after
+    → IsFrame (voices_sum (left_of k) kept voices) (voices_sum (right_of k) kept voices) k out_after
 same_frame kept voices k first out out_after lt same is = record {
   left = same (2 * k) (omega arith) ∙ is.left;
   right = same (2 * k + 1) (omega arith) ∙ is.right;
@@ -64,15 +64,15 @@ pub more_frames : (kept : List (Option Owned)) (voices : List Voice) (first many
     → AreFrames kept voices first out
     → ((j : ℕ) → j < 2 * first → get_or out_after j (pos 0) ≡ get_or out j (pos 0))
     → ((k : ℕ) → k < many
-        → IsFrame (voices_sum (left_of (first + k)) kept voices) (voices_sum (right_of (first + k)) kept voices)
-            (first + k) out_after)
+    → IsFrame (voices_sum (left_of (first + k)) kept voices) (voices_sum (right_of (first + k)) kept voices)
+    (first + k) out_after)
     → AreFrames kept voices (first + many) out_after
 more_frames kept voices first many out out_after are same new k lt =
     by_lt k first (λ below. same_frame kept voices k first out out_after below same (are k below))
     (λ from.
     let here : first + (k - first) ≡ k = omega arith in
     subst (λ (n : ℕ). IsFrame (voices_sum (left_of n) kept voices) (voices_sum (right_of n) kept voices) n out_after)
-        here (new (k - first) (omega arith)))
+    here (new (k - first) (omega arith)))
 
 -- the end of a block of at most 256 frames
 pub block_end : (first many frames n : ℕ) → many ≤ 256 → first + many ≤ frames → (many < 256 → first + many ≡ frames)

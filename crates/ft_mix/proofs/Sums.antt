@@ -32,7 +32,7 @@ pub next_voice : (side : Option Owned → Voice → ℤ) (kept : List (Option Ow
     (d : Voice) → i < length voices
     → voices_sum side kept (drop i voices)
     ≡ (side (get_or kept (get_or voices i d).channel None) (get_or voices i d)
-        +ℤ voices_sum side kept (drop (i + 1) voices))
+    +ℤ voices_sum side kept (drop (i + 1) voices))
 next_voice side kept voices i d lt = rw (drop-cons voices i d lt, add-one i) refl
 
 -- a sum that goes on by one voice

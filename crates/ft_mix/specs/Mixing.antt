@@ -22,7 +22,7 @@ abbrev pub Tells : {V W : Type 0} → (V → W → Type 0) → (V → W → Show
     → Type 0
 Tells {W = W} shows shown view view_after answer =
     (w : W) → shows view_after w
-        → shows view w × (shown view_after w ≡ shown view w) × answer (shown view w)
+    → shows view w × (shown view_after w ≡ shown view w) × answer (shown view w)
 
 -- ---- lines between two values
 
@@ -31,7 +31,7 @@ pub record IsLine (head : SampleHead) (owned : Option Owned) (at : ℕ) (line : 
   pub first : line.first ≡ value_in head owned (place_of head at)
   pub rise :
       line.rise
-          ≡ (value_in head owned (place_of head (at + 1)) -ℤ value_in head owned (place_of head at))
+      ≡ (value_in head owned (place_of head (at + 1)) -ℤ value_in head owned (place_of head at))
 
 -- both its ends have 16 bits
 pub record IsLineInRange (line : Line) : Type 0 where
@@ -87,7 +87,7 @@ pub record IsFrame (left_sum right_sum : ℤ) (frame : ℕ) (out : List ℤ) : T
 abbrev pub AreFrames : List (Option Owned) → List Voice → ℕ → List ℤ → Type 0
 AreFrames kept voices frames out =
     (k : ℕ) → k < frames
-        → IsFrame (voices_sum (left_of k) kept voices) (voices_sum (right_of k) kept voices) k out
+    → IsFrame (voices_sum (left_of k) kept voices) (voices_sum (right_of k) kept voices) k out
 
 -- ---- what the calls of a view cost
 

@@ -16,9 +16,9 @@ length-sound_bytes [] = refl
 length-sound_bytes (number ∷ sound) =
     let two : length (number_bytes number) ≡ 2 = refl in
     let joined : sound_bytes (number ∷ sound) ≡ number_bytes number ++ sound_bytes sound =
-        flat_map-cons number_bytes number sound in
+    flat_map-cons number_bytes number sound in
     omega
-        (arith, two, ap length joined, length-append (number_bytes number) (sound_bytes sound), length-sound_bytes sound)
+    (arith, two, ap length joined, length-append (number_bytes number) (sound_bytes sound), length-sound_bytes sound)
 
 -- the next piece, and then the rest
 pub sound_bytes-piece : (sound : List ℤ) (n : ℕ)

@@ -25,12 +25,12 @@ set_seam {X = X} (z ∷ front) rest x y = ap (λ (l : List X). z ∷ l) (set_sea
 sum_on : (side : Option Owned → Voice → ℤ) (front kept : List (Option Owned)) (k : Option Owned) (voice : Option Voice)
     (voices : List Voice) (total : ℤ) → IsHome (length front) voice
     → voices_sum side (front ++ k ∷ kept) voices ≡ total
-        → voices_sum side (front ++ k ∷ kept) (option_to_list voice ++ voices) ≡ (lane_adds side k voice +ℤ total)
+    → voices_sum side (front ++ k ∷ kept) (option_to_list voice ++ voices) ≡ (lane_adds side k voice +ℤ total)
 unfolding IsHome
 sum_on side front kept k None voices total home e = e ∙ (omega (arith, ints))
 sum_on side front kept k (Some v) voices total home e =
     ap (λ (n : ℕ). side (get_or (front ++ k ∷ kept) n None) v +ℤ voices_sum side (front ++ k ∷ kept) voices)
-        (home v refl)
+    (home v refl)
     ∙ ap (λ (o : Option Owned). side o v +ℤ voices_sum side (front ++ k ∷ kept) voices) (at_seam front kept k None)
     ∙ ap (λ (z : ℤ). side k v +ℤ z) e
 
@@ -45,7 +45,7 @@ sum_from side front (k ∷ kept) (channel ∷ channels) le home =
     sum_on side front kept k channel.voice (gathered channels) (lanes_sum side (lanes_of channels kept)) home.0
     (ap (λ (l : List (Option Owned)). voices_sum side l (gathered channels)) (sym (append_assoc front (k ∷ []) kept))
     ∙ sum_from side (front ++ k ∷ []) kept channels (omega arith)
-        (subst (λ (n : ℕ). HomeFrom n channels) (let e : length front + 1 ≡ length (front ++ k ∷ []) = omega (arith, length-append front (k ∷ [])) in e) home.1))
+    (subst (λ (n : ℕ). HomeFrom n channels) (let e : length front + 1 ≡ length (front ++ k ∷ []) = omega (arith, length-append front (k ∷ [])) in e) home.1))
 
 -- the sound of voices is that of the lanes in which they sit
 pub sound_joined : (kept : List (Option Owned)) (channels : List Channel) (frames : ℕ) → length channels ≤ length kept
@@ -55,18 +55,18 @@ unfolding sound_of_voices sound_of frame_of_voices frame_at
 sound_joined kept channels zero le home = refl
 sound_joined kept channels (suc frames) le home =
     ap
-        (λ (l : List ℤ).
-            l
-            ++ stereo (voices_sum (left_of frames) kept (gathered channels))
-                (voices_sum (right_of frames) kept (gathered channels))) (sound_joined kept channels frames le home)
+    (λ (l : List ℤ).
+    l
+    ++ stereo (voices_sum (left_of frames) kept (gathered channels))
+    (voices_sum (right_of frames) kept (gathered channels))) (sound_joined kept channels frames le home)
     ∙ ap
-        (λ (z : ℤ).
-            sound_of (lanes_of channels kept) frames ++ stereo z (voices_sum (right_of frames) kept (gathered channels)))
-        (sum_from (left_of frames) [] kept channels le home)
+    (λ (z : ℤ).
+    sound_of (lanes_of channels kept) frames ++ stereo z (voices_sum (right_of frames) kept (gathered channels)))
+    (sum_from (left_of frames) [] kept channels le home)
     ∙ ap
-        (λ (z : ℤ).
-            sound_of (lanes_of channels kept) frames ++ stereo (lanes_sum (left_of frames) (lanes_of channels kept)) z)
-        (sum_from (right_of frames) [] kept channels le home)
+    (λ (z : ℤ).
+    sound_of (lanes_of channels kept) frames ++ stereo (lanes_sum (left_of frames) (lanes_of channels kept)) z)
+    (sum_from (right_of frames) [] kept channels le home)
 
 -- ---- what a tick leaves
 
@@ -95,15 +95,15 @@ one_by : (b : Bool) (frames : ℕ) (voice : Voice) (channel : Channel) (voices r
     → voices_after frames voices ≡ rest
     → (if b then voices_after frames voices else voice_after frames voice ∷ voices_after frames voices)
     ≡ option_to_list
-        (if b then record channel { voice = None } else record channel { voice = Some (voice_after frames voice) }).voice
-        ++ rest
+    (if b then record channel { voice = None } else record channel { voice = Some (voice_after frames voice) }).voice
+    ++ rest
 one_by true frames voice channel voices rest e = e
 one_by false frames voice channel voices rest e = ap (λ (l : List Voice). voice_after frames voice ∷ l) e
 
 one_after : (frames : ℕ) (voice : Option Voice) (channel : Channel) (voices rest : List Voice) → channel.voice ≡ voice
     → voices_after frames voices ≡ rest
     → voices_after frames (option_to_list voice ++ voices)
-        ≡ option_to_list (after_by frames voice channel).voice ++ rest
+    ≡ option_to_list (after_by frames voice channel).voice ++ rest
 unfolding after_by
 one_after frames None channel voices rest is e = e ∙ ap (λ (v : Option Voice). option_to_list v ++ rest) (sym is)
 one_after frames (Some voice) channel voices rest is e =
@@ -120,8 +120,8 @@ voices_joined frames (channel ∷ channels) =
 -- nothing else of a channel changes
 emptied_by : (b : Bool) (frames : ℕ) (voice : Voice) (channel : Channel)
     → emptied
-        (if b then record channel { voice = None } else record channel { voice = Some (voice_after frames voice) })
-        ≡ emptied channel
+    (if b then record channel { voice = None } else record channel { voice = Some (voice_after frames voice) })
+    ≡ emptied channel
 emptied_by true frames voice channel = refl
 emptied_by false frames voice channel = refl
 
@@ -137,13 +137,13 @@ unfolding channel_after
 emptied_after frames [] = refl
 emptied_after frames (channel ∷ channels) =
     ap (λ (x : Channel). x ∷ map emptied (map (channel_after frames) channels))
-        (emptied_one frames channel.voice channel)
+    (emptied_one frames channel.voice channel)
     ∙ ap (λ (l : List Channel). emptied channel ∷ l) (emptied_after frames channels)
 
 -- and a voice stays on its channel
 home_by : (b : Bool) (n frames : ℕ) (voice : Voice) (channel : Channel) → voice.channel ≡ n
     → IsHome n
-        (if b then record channel { voice = None } else record channel { voice = Some (voice_after frames voice) }).voice
+    (if b then record channel { voice = None } else record channel { voice = Some (voice_after frames voice) }).voice
 unfolding IsHome
 home_by true n frames voice channel h = λ v is. absurd cc
 home_by false n frames voice channel h =
@@ -177,15 +177,15 @@ kept_by false frames voices front kept k shown e =
 kept_one : (frames : ℕ) (voice : Option Voice) (voices : List Voice) (front kept : List (Option Owned))
     (k : Option Owned) (shown : Shown) → IsHome (length front) voice → shown.kept ≡ front ++ k ∷ kept
     → shown_after frames (option_to_list voice ++ voices) shown
-        ≡ shown_after frames voices (record shown { kept = front ++ keep_by frames voice k ∷ kept })
+    ≡ shown_after frames voices (record shown { kept = front ++ keep_by frames voice k ∷ kept })
 unfolding IsHome keep_by
 kept_one frames None voices front kept k shown home e =
     ap (λ (l : List (Option Owned)). shown_after frames voices (record shown { kept = l })) e
 kept_one frames (Some voice) voices front kept k shown home e =
     ap
-        (λ (n : ℕ).
-            if is_ended frames voice then shown_after frames voices (keeping n None shown)
-            else shown_after frames voices shown) (home voice refl)
+    (λ (n : ℕ).
+    if is_ended frames voice then shown_after frames voices (keeping n None shown)
+    else shown_after frames voices shown) (home voice refl)
     ∙ kept_by (is_ended frames voice) frames voices front kept k shown e
 
 pub shown_joined : (frames : ℕ) (front kept : List (Option Owned)) (channels : List Channel) (shown : Shown)
@@ -199,37 +199,37 @@ shown_joined frames front (k ∷ kept) (channel ∷ channels) shown le home e =
     kept_one frames channel.voice (gathered channels) front kept k shown home.0 e
     ∙ shown_joined frames (front ++ new ∷ []) kept channels (record shown { kept = front ++ new ∷ kept }) (omega arith)
     (subst (λ (n : ℕ). HomeFrom n channels)
-        (let m : length front + 1 ≡ length (front ++ new ∷ []) = omega (arith, length-append front (new ∷ [])) in m)
-        home.1)
+    (let m : length front + 1 ≡ length (front ++ new ∷ []) = omega (arith, length-append front (new ∷ [])) in m)
+    home.1)
     (sym (append_assoc front (new ∷ []) kept))
     ∙ ap (λ (l : List (Option Owned)). record shown { kept = l })
-        (append_assoc front (new ∷ []) (kept_after frames channels kept))
+    (append_assoc front (new ∷ []) (kept_after frames channels kept))
 
 -- ---- the lanes then
 
 lane_by : (b : Bool) (frames : ℕ) (voice : Voice) (channel : Channel) (k : Option Owned)
     → record
-        { channel = (if b then record channel { voice = None } else record channel { voice = Some (voice_after frames voice) }); owned = (if b then None else k) }
+    { channel = (if b then record channel { voice = None } else record channel { voice = Some (voice_after frames voice) }); owned = (if b then None else k) }
     ≡ (if b then without_voice (record { channel = channel; owned = k })
-        else record { channel = record channel { voice = Some (voice_after frames voice) }; owned = k })
+    else record { channel = record channel { voice = Some (voice_after frames voice) }; owned = k })
 lane_by true frames voice channel k = refl
 lane_by false frames voice channel k = refl
 
 lane_one : (frames : ℕ) (voice : Option Voice) (channel : Channel) (k : Option Owned)
     → record { channel = after_by frames voice channel; owned = keep_by frames voice k }
-        ≡ lane_after_by frames voice (record { channel = channel; owned = k })
+    ≡ lane_after_by frames voice (record { channel = channel; owned = k })
 unfolding after_by keep_by
 lane_one frames None channel k = refl
 lane_one frames (Some voice) channel k = lane_by (is_ended frames voice) frames voice channel k
 
 pub lanes_joined : (frames : ℕ) (channels : List Channel) (kept : List (Option Owned)) → length channels ≤ length kept
     → lanes_of (map (channel_after frames) channels) (kept_after frames channels kept)
-        ≡ map (lane_after frames) (lanes_of channels kept)
+    ≡ map (lane_after frames) (lanes_of channels kept)
 unfolding channel_after kept_after lane_after
 lanes_joined frames [] kept le = refl
 lanes_joined frames (channel ∷ channels) [] le = absurd (omega arith)
 lanes_joined frames (channel ∷ channels) (k ∷ kept) le =
     ap (λ (x : Lane). x ∷ lanes_of (map (channel_after frames) channels) (kept_after frames channels kept))
-        (lane_one frames channel.voice channel k)
+    (lane_one frames channel.voice channel k)
     ∙ ap (λ (l : List Lane). lane_after_by frames channel.voice (record { channel = channel; owned = k }) ∷ l)
-        (lanes_joined frames channels kept (omega arith))
+    (lanes_joined frames channels kept (omega arith))

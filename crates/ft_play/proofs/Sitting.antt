@@ -75,18 +75,18 @@ skip n front channels channel voices e s = record {
 sit : (n : ℕ) (front channels : List Channel) (channel : Channel) (voice : Voice) (voices : List Voice)
     → channel.voice ≡ None → voice.channel ≡ n → length front ≡ n
     → Sat (n + 1) (front ++ (record channel { voice = Some voice }) ∷ []) channels voices
-        → Sat n front (channel ∷ channels) (voice ∷ voices)
+    → Sat n front (channel ∷ channels) (voice ∷ voices)
 unfolding IsHome HomeFrom
 sit n front channels channel voice voices e at many s =
     let on : Channel = record channel { voice = Some voice } in
     let here : voice.channel ≡ length front = at ∙ sym many in
     let sits : seat_of voice (front ++ channel ∷ channels) ≡ front ++ on ∷ channels =
     ap
-        (λ (k : ℕ).
-            set (front ++ channel ∷ channels) k
-            (record (get_or (front ++ channel ∷ channels) k blank_channel) { voice = Some voice })) here
+    (λ (k : ℕ).
+    set (front ++ channel ∷ channels) k
+    (record (get_or (front ++ channel ∷ channels) k blank_channel) { voice = Some voice })) here
     ∙ ap (λ (x : Channel). set (front ++ channel ∷ channels) (length front) (record x { voice = Some voice }))
-        (get_seam front channels channel blank_channel)
+    (get_seam front channels channel blank_channel)
     ∙ set_seam front channels channel on in
     record {
       channels_after = on ∷ s.channels_after;
@@ -123,7 +123,7 @@ sat_from n high front (channel ∷ channels) (voice ∷ voices) e h empty ascend
     (λ is.
     sit n front channels channel voice voices empty.0 is e
     (sat_from (n + 1) high (front ++ (record channel { voice = Some voice }) ∷ []) channels voices
-        (longer n front (record channel { voice = Some voice }) e) (omega arith) empty.1
+    (longer n front (record channel { voice = Some voice }) e) (omega arith) empty.1
     (subst (λ (k : ℕ). IsAscending (k + 1) high voices) is ascend.2)))
     (λ ne.
     skip n front channels channel (voice ∷ voices) empty.0
@@ -140,26 +140,26 @@ sits_back : (front channels : List Channel) (channel : Channel) (voice : Option 
     → IsHome (length front) voice
     → seated ((front ++ channel ∷ []) ++ map emptied channels) (gathered channels) ≡ (front ++ channel ∷ []) ++ channels
     → seated (front ++ emptied channel ∷ map emptied channels) (option_to_list voice ++ gathered channels)
-        ≡ front ++ channel ∷ channels
+    ≡ front ++ channel ∷ channels
 unfolding IsHome
 sits_back front channels channel None e h so_far =
     ap
-        (λ (x : Option Voice).
-            seated (front ++ (record channel { voice = x }) ∷ map emptied channels) (gathered channels)) (sym e)
+    (λ (x : Option Voice).
+    seated (front ++ (record channel { voice = x }) ∷ map emptied channels) (gathered channels)) (sym e)
     ∙ ap (λ (l : List Channel). seated l (gathered channels))
-        (sym (append_assoc front (channel ∷ []) (map emptied channels))) ∙ so_far
-        ∙ append_assoc front (channel ∷ []) channels
+    (sym (append_assoc front (channel ∷ []) (map emptied channels))) ∙ so_far
+    ∙ append_assoc front (channel ∷ []) channels
 sits_back front channels channel (Some v) e h so_far =
     let rest = map emptied channels in
     let all : List Channel = front ++ emptied channel ∷ rest in
     let sits : seat_of v all ≡ front ++ channel ∷ rest =
     ap (λ (n : ℕ). set all n (record (get_or all n blank_channel) { voice = Some v })) (h v refl)
     ∙ ap (λ (x : Channel). set all (length front) (record x { voice = Some v }))
-        (get_seam front rest (emptied channel) blank_channel)
+    (get_seam front rest (emptied channel) blank_channel)
     ∙ set_seam front rest (emptied channel) (record channel { voice = Some v })
     ∙ ap (λ (x : Option Voice). front ++ (record channel { voice = x }) ∷ rest) (sym e) in
     ap (λ (l : List Channel). seated l (gathered channels)) (sits ∙ sym (append_assoc front (channel ∷ []) rest))
-        ∙ so_far ∙ append_assoc front (channel ∷ []) channels
+    ∙ so_far ∙ append_assoc front (channel ∷ []) channels
 
 back_from : (front channels : List Channel) → HomeFrom (length front) channels
     → seated (front ++ map emptied channels) (gathered channels) ≡ front ++ channels
@@ -168,7 +168,7 @@ back_from front [] h = refl
 back_from front (channel ∷ channels) h =
     let more : length front + 1 ≡ length (front ++ channel ∷ []) = omega (arith, length-append front (channel ∷ [])) in
     sits_back front channels channel channel.voice refl h.0
-        (back_from (front ++ channel ∷ []) channels (subst (λ (n : ℕ). HomeFrom n channels) more h.1))
+    (back_from (front ++ channel ∷ []) channels (subst (λ (n : ℕ). HomeFrom n channels) more h.1))
 
 pub back : (channels : List Channel) → HomeFrom 0 channels
     → seated (map emptied channels) (gathered channels) ≡ channels

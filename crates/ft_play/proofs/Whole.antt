@@ -20,7 +20,7 @@ use Rattle.ft_play.proofs.Joined.{sound_joined, channel_after, kept_after, voice
 pub record AreJoined (used frames : ℕ) (channels : List Channel) (voices : List Voice) (shown : Shown) : Type 0 where
   pub sound :
       sound_of_voices shown.kept voices frames
-          ≡ sound_of (lanes_of (seated (take used channels) voices) shown.kept) frames
+      ≡ sound_of (lanes_of (seated (take used channels) voices) shown.kept) frames
   pub lanes : lanes_of (seated (take used channels) (voices_after frames voices)) (shown_after frames voices shown).kept
       ≡ map (lane_after frames) (lanes_of (seated (take used channels) voices) shown.kept)
   pub version : (shown_after frames voices shown).version ≡ shown.version
@@ -38,7 +38,7 @@ sat_joined : (empty : List Channel) (frames : ℕ) (voices : List Voice) (shown 
     → length empty ≤ length shown.kept
     → (sound_of_voices shown.kept voices frames ≡ sound_of (lanes_of (seated empty voices) shown.kept) frames)
     × (lanes_of (seated empty (voices_after frames voices)) (shown_after frames voices shown).kept
-        ≡ map (lane_after frames) (lanes_of (seated empty voices) shown.kept))
+    ≡ map (lane_after frames) (lanes_of (seated empty voices) shown.kept))
     × (shown_after frames voices shown ≡ record shown { kept = kept_after frames s.channels_after shown.kept })
 sat_joined empty frames voices shown s le =
     let m = s.channels_after in
@@ -47,7 +47,7 @@ sat_joined empty frames voices shown s le =
     let room : length m ≤ length shown.kept = omega (arith, many) in
     let after : shown_after frames voices shown ≡ record shown { kept = kept_after frames m shown.kept } =
     ap (λ (l : List Voice). shown_after frames l shown) (sym s.came)
-        ∙ shown_joined frames [] shown.kept m shown room s.home refl in
+    ∙ shown_joined frames [] shown.kept m shown room s.home refl in
     let sits : seated empty (voices_after frames voices) ≡ n =
     ap (λ (l : List Channel). seated l (voices_after frames voices)) (sym s.same ∙ sym (emptied_after frames m))
     ∙ ap (λ (l : List Voice). seated (map emptied n) l) (ap (voices_after frames) (sym s.came) ∙ voices_joined frames m)
@@ -58,7 +58,7 @@ sat_joined empty frames voices shown s le =
       ap (λ (l : List Channel). lanes_of l (shown_after frames voices shown).kept) sits
           ∙ ap (λ (x : Shown). lanes_of n x.kept) after
           ∙ lanes_joined frames m shown.kept room
-              ∙ ap (λ (l : List Channel). map (lane_after frames) (lanes_of l shown.kept)) (sym s.seats),
+          ∙ ap (λ (l : List Channel). map (lane_after frames) (lanes_of l shown.kept)) (sym s.seats),
       after,
     )
 
@@ -71,15 +71,15 @@ joined used frames time channels voices shown p room =
     let many : length empty ≡ used = omega (arith, length-take used channels) in
     let none : AreEmpty empty = are_empty empty (λ c lt.
     ap (λ (x : Channel). x.voice) (get_or-take channels used c blank_channel (omega arith))
-        ∙ p.seats c (omega arith)) in
+    ∙ p.seats c (omega arith)) in
     let s = sat empty voices none (subst (λ (n : ℕ). IsAscending 0 n voices) (sym many) p.ascend) in
     let all = sat_joined empty frames voices shown s (omega arith) in
     record {
-          sound = all.0;
-          lanes = all.1;
-          version = ap (λ (x : Shown). x.version) all.2;
-          song = ap (λ (x : Shown). x.song) all.2;
-        }
+      sound = all.0;
+      lanes = all.1;
+      version = ap (λ (x : Shown). x.version) all.2;
+      song = ap (λ (x : Shown). x.song) all.2;
+    }
 
 -- ---- which channels keep something
 
@@ -101,7 +101,7 @@ none_before low high c (voice ∷ voices) lt p =
 none_left_by : (b : Bool) (low high c frames : ℕ) (voice : Voice) (voices : List Voice) → eqb voice.channel c ≡ false
     → sounds_on c (voices_after frames voices) ≡ false
     → sounds_on c (if b then voices_after frames voices else voice_after frames voice ∷ voices_after frames voices)
-        ≡ false
+    ≡ false
 none_left_by true low high c frames voice voices far rest = rest
 none_left_by false low high c frames voice voices far rest =
     ap (λ (b : Bool). b || sounds_on c (voices_after frames voices)) far ∙ rest
@@ -113,14 +113,14 @@ none_left low high c frames [] lt p = refl
 none_left low high c frames (voice ∷ voices) lt p =
     let from = p.0 in
     none_left_by (is_ended frames voice) low high c frames voice voices
-        (ne_eqb voice.channel c (λ e. absurd (omega (arith, e))))
+    (ne_eqb voice.channel c (λ e. absurd (omega (arith, e))))
     (none_left (voice.channel + 1) high c frames voices (omega arith) p.2)
 
 -- a channel before all voices keeps what it keeps
 untouched_by : (b : Bool) (frames c : ℕ) (voice : Voice) (voices : List Voice) (held : List Bool) → c ≢ voice.channel
     → ((flags : List Bool) → get_or (holds_after frames voices flags) c false ≡ get_or flags c false)
     → get_or (if b then holds_after frames voices (set held voice.channel false) else holds_after frames voices held) c
-        false ≡ get_or held c false
+    false ≡ get_or held c false
 untouched_by true frames c voice voices held ne rest =
     rest (set held voice.channel false) ∙ get_or-set_other held voice.channel c false false ne
 untouched_by false frames c voice voices held ne rest = rest held
@@ -138,12 +138,12 @@ untouched low high c frames (voice ∷ voices) held lt p =
 own_by : (b : Bool) (low high c frames : ℕ) (voice : Voice) (voices : List Voice) (held : List Bool) → c ≡ voice.channel
     → c < length held → IsAscending (voice.channel + 1) high voices → get_or held c false ≡ true
     → get_or (if b then holds_after frames voices (set held voice.channel false) else holds_after frames voices held) c
-        false
+    false
     ≡ sounds_on c (if b then voices_after frames voices else voice_after frames voice ∷ voices_after frames voices)
 own_by true low high c frames voice voices held is lt p e =
     untouched (voice.channel + 1) high c frames voices (set held voice.channel false) (omega (arith, is)) p
     ∙ ap (λ (n : ℕ). get_or (set held voice.channel false) n false) is
-        ∙ get_or-set_same held voice.channel false false (omega (arith, is))
+    ∙ get_or-set_same held voice.channel false false (omega (arith, is))
     ∙ sym (none_left (voice.channel + 1) high c frames voices (omega (arith, is)) p)
 own_by false low high c frames voice voices held is lt p e =
     untouched (voice.channel + 1) high c frames voices held (omega (arith, is)) p ∙ e
@@ -152,13 +152,13 @@ own_by false low high c frames voice voices held is lt p e =
 other_by : (b : Bool) (c frames : ℕ) (voice : Voice) (voices : List Voice) (held : List Bool) → c ≢ voice.channel
     → eqb voice.channel c ≡ false → c < length held → get_or held c false ≡ sounds_on c voices
     → ((flags : List Bool) → c < length flags → get_or flags c false ≡ sounds_on c voices
-        → get_or (holds_after frames voices flags) c false ≡ sounds_on c (voices_after frames voices))
+    → get_or (holds_after frames voices flags) c false ≡ sounds_on c (voices_after frames voices))
     → get_or (if b then holds_after frames voices (set held voice.channel false) else holds_after frames voices held) c
-        false
+    false
     ≡ sounds_on c (if b then voices_after frames voices else voice_after frames voice ∷ voices_after frames voices)
 other_by true c frames voice voices held ne far lt e rest =
     rest (set held voice.channel false) (omega (arith, length-set held voice.channel false))
-        (get_or-set_other held voice.channel c false false ne ∙ e)
+    (get_or-set_other held voice.channel c false false ne ∙ e)
 other_by false c frames voice voices held ne far lt e rest =
     rest held lt e ∙ ap (λ (b : Bool). b || sounds_on c (voices_after frames voices)) (sym far)
 
@@ -174,7 +174,7 @@ exact_after low high c frames (voice ∷ voices) held p lt e =
     (λ ne.
     let far : eqb voice.channel c ≡ false = ne_eqb voice.channel c (λ x. ne (sym x)) in
     other_by (is_ended frames voice) c frames voice voices held ne far lt
-        (e ∙ ap (λ (b : Bool). b || sounds_on c voices) far)
+    (e ∙ ap (λ (b : Bool). b || sounds_on c voices) far)
     (λ flags within f. exact_after (voice.channel + 1) high c frames voices flags p.2 within f))
 
 -- no more voices than channels
@@ -190,16 +190,16 @@ few_voices low high (voice ∷ voices) le p =
 
 pub tick_state : (version : ℕ) (song : Module) (rate : ℕ) (state silent after : SequentialState) (frames : ℕ)
     → silent ≡ (tick_state_of version song rate state).state
-        → frames ≡ (tick_state_of version song rate state).place.frames
+    → frames ≡ (tick_state_of version song rate state).place.frames
     → after.control ≡ silent.control → after.lanes ≡ map (lane_after frames) silent.lanes
     → after ≡ (seq_tick version song rate state).state
 unfolding seq_tick
 tick_state version song rate state silent after frames made many control lanes =
     ap (λ (l : List Lane). record { control = after.control; lanes = l }) lanes
     ∙ rw (control, many)
-        (ap
-            (λ (s : SequentialState).
-                record s { lanes = map (lane_after (tick_state_of version song rate state).place.frames) s.lanes }) made)
+    (ap
+    (λ (s : SequentialState).
+    record s { lanes = map (lane_after (tick_state_of version song rate state).place.frames) s.lanes }) made)
 
 pub tick_place : (version : ℕ) (song : Module) (rate : ℕ) (state : SequentialState)
     → (tick_state_of version song rate state).place ≡ (seq_tick version song rate state).place
@@ -208,7 +208,7 @@ tick_place version song rate state = refl
 
 pub tick_sound : (version : ℕ) (song : Module) (rate : ℕ) (state silent : SequentialState) (frames : ℕ)
     → silent ≡ (tick_state_of version song rate state).state
-        → frames ≡ (tick_state_of version song rate state).place.frames
+    → frames ≡ (tick_state_of version song rate state).place.frames
     → sound_of silent.lanes frames ≡ (seq_tick version song rate state).sound
 unfolding seq_tick
 tick_sound version song rate state silent frames made many = rw (made, many) refl

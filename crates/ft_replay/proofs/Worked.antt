@@ -46,7 +46,7 @@ sounding step = record {
 -- four frames of 2048 on both sides, and then silence
 four_and_silence : sound_of (sounding (2 ^ 32) ∷ []) 6
     ≡ pos 2048 ∷ pos 2048 ∷ pos 2048 ∷ pos 2048 ∷ pos 2048 ∷ pos 2048 ∷ pos 2048 ∷ pos 2048 ∷ pos 0 ∷ pos 0 ∷ pos 0
-        ∷ pos 0 ∷ []
+    ∷ pos 0 ∷ []
 unfolding sounding four_frames sound_of frame_at value_at place_of between part gained
 four_and_silence = refl
 

@@ -17,7 +17,7 @@ abbrev pub Changes : {V W : Type 0} → (V → W → Type 0) → (V → W → Sh
 Changes {W = W} shows shown rule c view view_after channel channel_after =
     (w : W) → shows view_after w → shows view w
     × Became c (rule (shown view w).version (shown view w).song (lane_of c (shown view w) channel))
-        (shown view w) (shown view_after w) channel_after
+    (shown view w) (shown view_after w) channel_after
 
 -- one channel's turn becomes what a rule makes of it
 abbrev pub Turns : {V W : Type 0} → (V → W → Type 0) → (V → W → Shown)
@@ -25,9 +25,9 @@ abbrev pub Turns : {V W : Type 0} → (V → W → Type 0) → (V → W → Show
 Turns {W = W} shows shown rule c view view_after channel channel_after control control_after =
     (w : W) → shows view_after w → shows view w
     × Turned c
-        (rule (shown view w).version (shown view w).song c
-            (turn_of c (shown view w) channel control)) (shown view w) (shown view_after w)
-        channel_after control_after
+    (rule (shown view w).version (shown view w).song c
+    (turn_of c (shown view w) channel control)) (shown view w) (shown view_after w)
+    channel_after control_after
 
 -- the whole state becomes what a rule makes of it
 abbrev pub Makes : {V W : Type 0} → (V → W → Type 0) → (V → W → Shown)
@@ -36,7 +36,7 @@ abbrev pub Makes : {V W : Type 0} → (V → W → Type 0) → (V → W → Show
 Makes {W = W} shows shown rule view view_after state state_after =
     (w : W) → shows view_after w → shows view w
     × Made rule (shown view w) (shown view_after w) (state (shown view w))
-        (state_after (shown view_after w))
+    (state_after (shown view_after w))
 
 -- nothing that is shown changes
 abbrev pub ShowsOn : {V W : Type 0} → (V → W → Type 0) → (V → W → Shown) → V → V → Type 0
@@ -52,9 +52,9 @@ abbrev pub TurnsShown : {V W : Type 0} → (V → W → Type 0) → (V → W →
     → (ℕ → Module → ℕ → Turn → Turn) → ℕ → V → V → Channel → Channel → Control → Control → Type 0
 TurnsShown shows shown rule c view view_after channel channel_after control control_after =
     (after : Shown) → MayShow shows shown view_after after
-        → (before : Shown) × MayShow shows shown view before
+    → (before : Shown) × MayShow shows shown view before
     × Turned c (rule before.version before.song c (turn_of c before channel control)) before after
-        channel_after control_after
+    channel_after control_after
 
 -- of which the whole state is made
 abbrev pub MakesShown : {V W : Type 0} → (V → W → Type 0) → (V → W → Shown)
@@ -62,7 +62,7 @@ abbrev pub MakesShown : {V W : Type 0} → (V → W → Type 0) → (V → W →
     → (Shown → SequentialState) → Type 0
 MakesShown shows shown rule view view_after state state_after =
     (after : Shown) → MayShow shows shown view_after after
-        → (before : Shown) × MayShow shows shown view before
+    → (before : Shown) × MayShow shows shown view before
     × Made rule before after (state before) (state_after after)
 
 -- ---- what is kept, whatever stands behind the view

@@ -27,15 +27,15 @@ last_by position points (suc n) =
 unfoldable pub on_line : Point → Point → ℕ → ℕ
 on_line from to position =
     nat_abs
-        (pos from.y
-            +ℤ floor_div ((pos to.y -ℤ pos from.y) *ℤ pos (position - from.x)) (to.x - from.x))
+    (pos from.y
+    +ℤ floor_div ((pos to.y -ℤ pos from.y) *ℤ pos (position - from.x)) (to.x - from.x))
 
 -- before all points the value is that of the first, and after them that of the last
 abbrev pub value_by : Envelope → ℕ → Option ℕ → ℕ
 value_by envelope position None = (point_at envelope 0).y
 value_by envelope position (Some k) =
     if k + 1 == envelope.count then (point_at envelope k).y
-        else on_line (point_at envelope k) (point_at envelope (k + 1)) position
+    else on_line (point_at envelope k) (point_at envelope (k + 1)) position
 
 unfoldable pub envelope_value : Envelope → ℕ → ℕ
 envelope_value envelope position =
@@ -54,10 +54,10 @@ heard_envelope without (Some envelope) position =
 unfoldable pub envelope_next : Envelope → Bool → ℕ → ℕ
 envelope_next envelope released position =
     if not (envelope.flags / 2 % 2 == 0) && not released
-        && position == (point_at envelope envelope.sustain).x then position
+    && position == (point_at envelope envelope.sustain).x then position
     else (if not (envelope.flags / 4 % 2 == 0)
-        && position == (point_at envelope envelope.loop_end).x
-        then (point_at envelope envelope.loop_start).x
+    && position == (point_at envelope envelope.loop_end).x
+    then (point_at envelope envelope.loop_start).x
     else (if nat_le (point_at envelope (envelope.count - 1)).x position then position
     else position + 1))
 

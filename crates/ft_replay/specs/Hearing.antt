@@ -68,8 +68,8 @@ glided_period channel =
 unfoldable pub stepped_period : Bool → Channel → ℤ
 stepped_period linear channel =
     int_max (pos 1)
-        (if linear then (glided_period channel -ℤ pos (64 * channel.arp))
-            else pos (amiga_higher channel.arp channel.period))
+    (if linear then (glided_period channel -ℤ pos (64 * channel.arp))
+    else pos (amiga_higher channel.arp channel.period))
 
 -- with what a vibrato and the automatic vibrato add: 1 to 31,999
 unfoldable pub heard_period : Bool → ℤ → Channel → ℕ
@@ -104,8 +104,8 @@ unfoldable pub heard_voice : Bool → ℕ → ℕ → Option Envelope → Option
     → Voice
 heard_voice linear rate global volume panning offset channel voice =
     let gain =
-        gain_of (heard_volume channel) global (heard_envelope 64 volume channel.vol_env)
-        channel.fade in
+    gain_of (heard_volume channel) global (heard_envelope 64 volume channel.vol_env)
+    channel.fade in
     let pan = heard_panning channel.pan (heard_envelope 32 panning channel.pan_env) in
     record voice {
       step = step_of linear rate (heard_period linear offset channel);
@@ -158,13 +158,13 @@ abbrev pub heard_by : ℕ → ℕ → Bool → Option Envelope → Option Envelo
 heard_by rate global linear volume panning shape None channel = channel
 heard_by rate global linear volume panning shape (Some voice) channel =
     let heard =
-        heard_voice linear rate global volume panning (offset_by shape channel) channel voice in
+    heard_voice linear rate global volume panning (offset_by shape channel) channel voice in
     with_fade (fadeout_of shape)
-        (with_auto_by shape (with_envelopes volume panning (record channel { voice = Some heard })))
+    (with_auto_by shape (with_envelopes volume panning (record channel { voice = Some heard })))
 
 -- a channel with a voice, by the instrument of its number
 unfoldable pub heard_channel : ℕ → Control → Module → Channel → Channel
 heard_channel rate control song channel =
     let instrument = instrument_at song channel.instrument in
     heard_by rate control.global song.linear (envelope_in instrument 0) (envelope_in instrument 1)
-        (shape_in instrument) channel.voice channel
+    (shape_in instrument) channel.voice channel

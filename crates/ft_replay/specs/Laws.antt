@@ -9,9 +9,9 @@ abbrev pub TicksGoOn : Type 0
 TicksGoOn = (song_at : ℕ → Module) (versions more : List ℕ) (rate : ℕ) (state : SequentialState)
     → ticks_from song_at (versions ++ more) rate state
     ≡ ticks_from song_at versions rate state
-        ++ ticks_from song_at more rate (state_after song_at versions rate state)
+    ++ ticks_from song_at more rate (state_after song_at versions rate state)
 
 abbrev pub StateGoesOn : Type 0
 StateGoesOn = (song_at : ℕ → Module) (versions more : List ℕ) (rate : ℕ) (state : SequentialState)
     → state_after song_at (versions ++ more) rate state
-        ≡ state_after song_at more rate (state_after song_at versions rate state)
+    ≡ state_after song_at more rate (state_after song_at versions rate state)

@@ -37,16 +37,16 @@ unfoldable pub replay : ℕ → (ℕ → Module) → List ℕ → ℕ → ℕ �
 replay channels song_at versions count rate =
     let ticks = ticks_from song_at versions rate (first_state channels) in
     record {
-          places = cut_last count (map (λ tick. tick.place) ticks);
-          sound = take (2 * count) (sound_of_ticks ticks);
-        }
+      places = cut_last count (map (λ tick. tick.place) ticks);
+      sound = take (2 * count) (sound_of_ticks ticks);
+    }
 
 -- the sound of so many frames of one version of a song, from a state on: as many ticks as frames
 -- are enough, since each has a frame
 unfoldable pub sound_from : ℕ → Module → ℕ → ℕ → SequentialState → List ℤ
 sound_from version song count rate state =
     take (2 * count)
-        (sound_of_ticks (ticks_from (λ version. song) (replicate count version) rate state))
+    (sound_of_ticks (ticks_from (λ version. song) (replicate count version) rate state))
 
 -- and from its beginning
 abbrev pub sound_of_song : Module → ℕ → ℕ → List ℤ

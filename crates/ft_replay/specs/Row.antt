@@ -157,7 +157,7 @@ note_of version song c cell lane =
     if cell.note == 97 then no_start (with_channel (with_key_off song) lane)
     else (if not (is_note cell) then no_start lane
     else (if is_towards cell && is_some lane.channel.voice
-        then no_start (with_channel (with_target song cell) lane)
+    then no_start (with_channel (with_target song cell) lane)
     else begin_of version song c cell lane))
 
 -- ---- what a note or an instrument byte sets anew
@@ -196,9 +196,9 @@ unfoldable pub strike_of : ℕ → Module → ℕ → Cell → Lane → Lane
 strike_of version song c cell lane =
     let start = note_of version song c cell (with_channel (with_instrument cell) lane) in
     with_channel
-        (λ channel.
-            volume_start_of (volume_effect_of cell.volume) (after_note start.began cell channel))
-        start.lane
+    (λ channel.
+    volume_start_of (volume_effect_of cell.volume) (after_note start.began cell channel))
+    start.lane
 
 -- a key off by effect K, where this is its tick
 abbrev pub key_off_at : Module → ℕ → Effect → Channel → Channel
@@ -209,8 +209,8 @@ key_off_at song u effect channel = channel
 unfoldable pub effect_start_of : Module → ℕ → Effect → Turn → Turn
 effect_start_of song c effect turn =
     let channel =
-        key_off_at song 0 effect
-        (rules.setting_start effect (rules.slide_start effect turn.lane.channel)) in
+    key_off_at song 0 effect
+    (rules.setting_start effect (rules.slide_start effect turn.lane.channel)) in
     rules.loop_start c effect (record {
       lane = record turn.lane { channel = channel };
       control = rules.control_start effect turn.control;
@@ -227,9 +227,9 @@ row_start_of version song c cell turn =
     let effect = effect_in cell in
     if is_delayed effect then turn
     else effect_start_of song c effect
-        (record turn {
-              lane = strike_of version song c cell (with_channel (with_offset effect) turn.lane);
-            })
+    (record turn {
+      lane = strike_of version song c cell (with_channel (with_offset effect) turn.lane);
+    })
 
 -- ---- its later ticks
 
@@ -243,12 +243,12 @@ delayed_strike version song c cell u effect lane = lane
 unfoldable pub effect_tick_of : Module → ℕ → Effect → Turn → Turn
 effect_tick_of song u effect turn =
     let channel =
-        key_off_at song u effect
-        (rules.swing_tick u effect (rules.slide_tick effect turn.lane.channel)) in
+    key_off_at song u effect
+    (rules.swing_tick u effect (rules.slide_tick effect turn.lane.channel)) in
     record {
-          lane = record turn.lane { channel = channel };
-          control = rules.control_tick effect channel turn.control;
-        }
+      lane = record turn.lane { channel = channel };
+      control = rules.control_tick effect channel turn.control;
+    }
 
 -- a later tick u of the row: the volume byte, then a delayed note or the effect
 unfoldable pub row_tick_of : ℕ → Module → ℕ → ℕ → Turn → Turn
@@ -257,4 +257,4 @@ row_tick_of version song c u turn =
     let effect = effect_in cell in
     let lane = with_channel (volume_tick_of (volume_effect_of cell.volume)) turn.lane in
     effect_tick_of song u effect
-        (record turn { lane = delayed_strike version song c cell u effect lane })
+    (record turn { lane = delayed_strike version song c cell u effect lane })

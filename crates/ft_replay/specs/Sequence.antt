@@ -48,8 +48,8 @@ abbrev pub pattern_loop : ℕ → ℕ → Turn → Turn
 pattern_loop c times turn =
     let channel = turn.lane.channel in
     if times == 0
-        then record turn
-            { lane = record turn.lane { channel = with_loop_row turn.control.row channel } }
+    then record turn
+    { lane = record turn.lane { channel = with_loop_row turn.control.row channel } }
     else record {
       lane = record turn.lane { channel = with_loop_count (loops_left times channel) channel };
       control = with_back c (loops_left times channel) turn.control;

@@ -122,16 +122,16 @@ abbrev pub is_ended : ℕ → Voice → Bool
 is_ended frames voice =
     voice.last
     || ((voice.head.loop_kind == 0)
-        && not (nat_lt (reached frames voice / 2 ^ 32) voice.head.frames))
+    && not (nat_lt (reached frames voice / 2 ^ 32) voice.head.frames))
 
 -- a position past the end of a loop is brought back by whole turns; in a ping-pong loop it may
 -- still be on its way back
 unfoldable pub brought_back : SampleHead → ℕ → ℕ
 brought_back head position =
     if (head.loop_kind == 0) || nat_lt (position / 2 ^ 32) (head.loop_start + head.loop_len)
-        then position
+    then position
     else (head.loop_start + (position / 2 ^ 32 - head.loop_start) % loop_turn head) * 2 ^ 32
-        + position % 2 ^ 32
+    + position % 2 ^ 32
 
 abbrev pub voice_after : ℕ → Voice → Voice
 voice_after frames voice = record voice { pos = brought_back voice.head (reached frames voice) }
@@ -159,10 +159,10 @@ abbrev pub shown_after : ℕ → List Voice → Shown → Shown
 shown_after frames [] shown = shown
 shown_after frames (voice ∷ voices) shown =
     if is_ended frames voice then shown_after frames voices (keeping voice.channel None shown)
-        else shown_after frames voices shown
+    else shown_after frames voices shown
 
 abbrev pub holds_after : ℕ → List Voice → List Bool → List Bool
 holds_after frames [] holds = holds
 holds_after frames (voice ∷ voices) holds =
     if is_ended frames voice then holds_after frames voices (set holds voice.channel false)
-        else holds_after frames voices holds
+    else holds_after frames voices holds

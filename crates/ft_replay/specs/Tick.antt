@@ -26,7 +26,7 @@ without_loop channel = record channel { loop_row = 0; loop_count = 0 }
 abbrev pub at_position : ℕ → ℕ → SequentialState → SequentialState
 at_position position row state =
     with_channels without_loop
-        (with_control (record state.control { pos = position; row = row }) state)
+    (with_control (record state.control { pos = position; row = row }) state)
 
 -- the first tick of all takes tempo and BPM from the song
 abbrev pub with_song_tempo : Module → Control → Control
@@ -55,7 +55,7 @@ unfoldable pub at_place : Module → SequentialState → SequentialState
 at_place song state =
     if state.control.tick == 0
     then within_rows song
-        (within_orders song (with_control (with_song_tempo song state.control) state))
+    (within_orders song (with_control (with_song_tempo song state.control) state))
     else state
 
 -- ---- the rules of the row, channel by channel
@@ -84,7 +84,7 @@ abbrev pub first_turn : ℕ → Module → ℕ → Turn → Turn
 first_turn version song c turn =
     let cell = cell_at song (order_at song turn.control.pos) turn.control.row c in
     row_start_of version song c cell
-        (record turn { lane = with_channel (λ channel. record channel { cell = cell }) turn.lane })
+    (record turn { lane = with_channel (λ channel. record channel { cell = cell }) turn.lane })
 
 abbrev pub later_turn : ℕ → Module → ℕ → Turn → Turn
 later_turn version song c turn =
@@ -116,7 +116,7 @@ row_by (Some c) state = with_control (record state.control { row = loop_row_of c
 row_by None state =
     if leads_on state.control
     then at_position (unwrap_or state.control.jump (state.control.pos + 1))
-        (unwrap_or state.control.to_row 0) state
+    (unwrap_or state.control.to_row 0) state
     else with_control (record state.control { row = state.control.row + 1 }) state
 
 -- a row begins: nothing is pending any more

@@ -18,7 +18,7 @@ pub front_of_second : TakesNothingFirst → TakesPieceNext → TakesFrontLast
 front_of_second nothing next front a b c first second took part =
     let so_far = next a a b (first ++ second) first second (nothing a (first ++ second)) took in
     front a b c (first ++ second) second []
-        (subst (λ (rest : List ℕ). TakesUpTo a b (first ++ second) rest) (sym (append-nil second)) so_far) part
+    (subst (λ (rest : List ℕ). TakesUpTo a b (first ++ second) rest) (sym (append-nil second)) so_far) part
 
 -- what is known of one answer, of another that follows from it
 pub on_ok : {T E P Q : Type 0} (result : Result T E) → (P → Q) → OnOk result P → OnOk result Q

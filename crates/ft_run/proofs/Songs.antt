@@ -48,8 +48,8 @@ is_fault : (file : List ℕ) (found fault : XmFault) → refusal_of found ≡ st
 is_fault file found fault e (inr given) = subst (λ (f : XmFault). HasFault file f) (same_fault found fault e) given
 is_fault file found fault e (inl wanting) =
     let other : statuses.NoMemory ≡ statuses.Song (Xm fault) =
-        subst (λ (f : XmFault). refusal_of f ≡ statuses.Song (Xm fault)) wanting e in
-        absurd cc
+    subst (λ (f : XmFault). refusal_of f ≡ statuses.Song (Xm fault)) wanting e in
+    absurd cc
 
 -- no song is read where memory is wanting
 pub accepts : (found : XmFault) → found ≡ faults.NoMemory → IsAccepted (refusal_of found)
@@ -150,7 +150,7 @@ module _ {Source : Type 0} (left : Source → Option (List ℕ)) (given failed :
     not_longer : (file : List ℕ) → left old ≡ Some file → MOST_BYTES < length file → ⊥
     not_longer file told longer =
         let same : MOST_BYTES < length bytes =
-            subst (λ (it : List ℕ). MOST_BYTES < length it) (sym (whole_of file told)) longer in
+        subst (λ (it : List ℕ). MOST_BYTES < length it) (sym (whole_of file told)) longer in
         omega (arith, few, some, same)
 
     -- all was read, and is a song
@@ -183,7 +183,7 @@ module _ {Source : Type 0} (left : Source → Option (List ℕ)) (given failed :
           is_fault file found fault e (subst (λ (it : List ℕ). IsFaultOf it found) (whole_of file told) is);
       refused = λ file fault told has.
           refuses found fault
-              (first fault (subst (λ (it : List ℕ). HasFault it fault) (sym (whole_of file told.0)) has));
+          (first fault (subst (λ (it : List ℕ). HasFault it fault) (sym (whole_of file told.0)) has));
       never_memory = never_memory found;
       accepted =
           λ file song told spelled.

@@ -68,8 +68,8 @@ cut_same : (sound : List ℤ) (n left count : ℕ) → length sound ≡ 2 * n �
 cut_same sound n left count many least =
     cond_both (ltb left n) tt tt (λ (x : Unit {0}). take (2 * left) sound ≡ take (2 * count) sound)
     (λ is.
-        let lt = ltb-true left n is in
-        ap (λ (k : ℕ). take (2 * k) sound) (let e : left ≡ count = omega (arith, least) in e))
+    let lt = ltb-true left n is in
+    ap (λ (k : ℕ). take (2 * k) sound) (let e : left ≡ count = omega (arith, least) in e))
     (λ is.
     let le = ltb-false left n is in
     let e : count ≡ n = omega (arith, least) in
@@ -98,11 +98,11 @@ module _ (ticks_law : TicksGoOn) (state_law : StateGoesOn) (version : ℕ) (song
       ap (λ (l : List ℕ). sound_of_ticks (ticks_from (λ _. song) l rate first)) (replicate-add m n version)
       ∙ ap sound_of_ticks (ticks_law (λ _. song) (replicate m version) (replicate n version) rate first)
       ∙ ticks-append (ticks_from (λ _. song) (replicate m version) rate first)
-          (ticks_from (λ _. song) (replicate n version) rate (after_ticks version song rate first m))
+      (ticks_from (λ _. song) (replicate n version) rate (after_ticks version song rate first m))
 
   state_then : (m n : ℕ)
       → after_ticks version song rate first (m + n)
-          ≡ after_ticks version song rate (after_ticks version song rate first m) n
+      ≡ after_ticks version song rate (after_ticks version song rate first m) n
   state_then m n =
       ap (λ (l : List ℕ). state_after (λ _. song) l rate first) (replicate-add m n version)
       ∙ state_law (λ _. song) (replicate m version) (replicate n version) rate first
@@ -125,7 +125,7 @@ module _ (ticks_law : TicksGoOn) (state_law : StateGoesOn) (version : ℕ) (song
   so_far frames left old now state u some =
       let rest = u.rest in let long = u.long in
       subst (λ (l : List ℤ). Appends old now (sound_bytes l))
-          (take_all (2 * frames) (T u.ticks) (omega (arith, long, rest))) u.took
+      (take_all (2 * frames) (T u.ticks) (omega (arith, long, rest))) u.took
 
   pub begins : TakesNothingFirst → TakesAllLast → (frames : ℕ) (old : Option (List ℕ))
       → Underway version song rate frames first old old first frames
@@ -144,9 +144,9 @@ module _ (ticks_law : TicksGoOn) (state_law : StateGoesOn) (version : ℕ) (song
 
   pub goes_on : AppendsInTurn
       → (frames left n count : ℕ) (old now later : Option (List ℕ)) (state : SequentialState)
-          (u : Underway version song rate frames first old now state left)
+      (u : Underway version song rate frames first old now state left)
       → 1 ≤ left → length (next state).sound ≡ 2 * n → 1 ≤ n → count ≡ min n left
-          → Appends now later (sound_bytes (take (2 * count) (next state).sound))
+      → Appends now later (sound_bytes (take (2 * count) (next state).sound))
       → Underway version song rate frames first old later (next state).state (left - count)
   goes_on joined frames left n count old now later state u some many ticks least took =
       let rest = u.rest in let long = u.long in let slow = u.slow in let few = u.few in
@@ -157,7 +157,7 @@ module _ (ticks_law : TicksGoOn) (state_law : StateGoesOn) (version : ℕ) (song
       let whole : take (2 * frames) (T (u.ticks + 1)) ≡ T u.ticks ++ take (2 * count) sound =
       ap (take (2 * frames)) more ∙ take_past (2 * frames) (T u.ticks) sound within
       ∙ ap (λ (k : ℕ). T u.ticks ++ take k sound) gap
-          ∙ ap (λ (l : List ℤ). T u.ticks ++ l) (cut_same sound n left count many least) in
+      ∙ ap (λ (l : List ℤ). T u.ticks ++ l) (cut_same sound n left count many least) in
       record {
         ticks = u.ticks + 1;
         played = u.played + n;
@@ -179,21 +179,21 @@ module _ (ticks_law : TicksGoOn) (state_law : StateGoesOn) (version : ℕ) (song
       let rest = u.rest in let long = u.long in let few = u.few in
       let others = frames - u.ticks in
       let all : T frames
-          ≡ T u.ticks ++ sound_after version song rate (after_ticks version song rate first u.ticks) others =
+      ≡ T u.ticks ++ sound_after version song rate (after_ticks version song rate first u.ticks) others =
       ap T (let e : frames ≡ u.ticks + others = omega arith in e) ∙ sound_then u.ticks others in
       subst (λ (l : List ℤ). Appends old now (sound_bytes l))
       (sym
-          (ap (take (2 * frames)) all
-              ∙ take_within (2 * frames) (T u.ticks)
-                  (sound_after version song rate (after_ticks version song rate first u.ticks) others)
-                  (omega (arith, long, rest, none))))
+      (ap (take (2 * frames)) all
+      ∙ take_within (2 * frames) (T u.ticks)
+      (sound_after version song rate (after_ticks version song rate first u.ticks) others)
+      (omega (arith, long, rest, none))))
       u.took
 
   pub cut : TakesFrontLast
       → (frames left n count : ℕ) (old now later : Option (List ℕ)) (state : SequentialState)
-          (u : Underway version song rate frames first old now state left)
+      (u : Underway version song rate frames first old now state left)
       → 1 ≤ left → length (next state).sound ≡ 2 * n → count ≡ min n left
-          → TakesFront now later (sound_bytes (take (2 * count) (next state).sound))
+      → TakesFront now later (sound_bytes (take (2 * count) (next state).sound))
       → TakesFront old later (sound_bytes (sound_from version song frames rate first))
   unfolding sound_from
   cut front frames left n count old now later state u some many least part =
@@ -211,17 +211,17 @@ module _ (ticks_law : TicksGoOn) (state_law : StateGoesOn) (version : ℕ) (song
       ∙ ap (λ (l : List ℤ). l ++ tail) (sound_next u.ticks state u.at) ∙ append_assoc (T u.ticks) sound tail in
       let split : sound ++ tail ≡ piece ++ left_over =
       ap (λ (l : List ℤ). l ++ tail) (sym (take-append-drop (2 * count) sound))
-          ∙ append_assoc piece (drop (2 * count) sound) tail in
+      ∙ append_assoc piece (drop (2 * count) sound) tail in
       let whole : take (2 * frames) (T frames) ≡ T u.ticks ++ (piece ++ q) =
       ap (take (2 * frames)) all ∙ take_past (2 * frames) (T u.ticks) (sound ++ tail) within
       ∙ ap (λ (k : ℕ). T u.ticks ++ take k (sound ++ tail)) gap
-          ∙ ap (λ (l : List ℤ). T u.ticks ++ take (2 * left) l) split
+      ∙ ap (λ (l : List ℤ). T u.ticks ++ take (2 * left) l) split
       ∙ ap (λ (l : List ℤ). T u.ticks ++ l)
-          (take_past (2 * left) piece left_over (piece_within sound n left count many least)) in
+      (take_past (2 * left) piece left_over (piece_within sound n left count many least)) in
       let bytes : sound_bytes (take (2 * frames) (T frames))
-          ≡ sound_bytes (T u.ticks) ++ (sound_bytes piece ++ sound_bytes q) =
+      ≡ sound_bytes (T u.ticks) ++ (sound_bytes piece ++ sound_bytes q) =
       ap sound_bytes whole ∙ sound_bytes-append (T u.ticks) (piece ++ q)
-          ∙ ap (λ (l : List ℕ). sound_bytes (T u.ticks) ++ l) (sound_bytes-append piece q) in
+      ∙ ap (λ (l : List ℕ). sound_bytes (T u.ticks) ++ l) (sound_bytes-append piece q) in
       front old now later (sound_bytes (take (2 * frames) (T frames))) (sound_bytes piece) (sound_bytes q)
       (record { front = sound_bytes (T u.ticks); whole = bytes; taken = so_far frames left old now state u some }) part
 

@@ -34,7 +34,7 @@ highest note le =
 -- a finetune from 0 on goes towards the next note, and one below 0 towards the one before
 pub tuned_up : (note : ℕ) (finetune : ℤ) → pos 0 ≤ℤ finetune
     → amiga_note note - (amiga_note note - amiga_note (note + 1)) * nat_abs finetune / 128
-        ≡ amiga_period_of note finetune
+    ≡ amiga_period_of note finetune
 unfolding amiga_period_of
 tuned_up note (pos up) le = refl
 tuned_up note (negsuc down) le = absurd (omega (arith, ints))
@@ -45,4 +45,4 @@ unfolding amiga_period_of
 tuned_down note (pos up) le = absurd (omega (arith, ints))
 tuned_down note (negsuc down) le =
     ap (λ (n : ℕ). amiga_note note + (amiga_before note - amiga_note note) * n / 128) {x = suc down} {y = down + 1}
-        (omega arith)
+    (omega arith)

@@ -10,7 +10,7 @@ use Rattle.ft_tables.specs.Pitch.{linear_frequency_of, by_octaves, power_at, flo
 above : (n up : ℕ) → n * 2 ^ (up + 36) / 2 ^ 36 ≡ n * 2 ^ up
 above n up =
     let split : n * 2 ^ (up + 36) ≡ n * 2 ^ up * 2 ^ 36 =
-        ap (λ (x : ℕ). n * x) (pow-add 2 up 36) ∙ sym (mul_assoc n (2 ^ up) (2 ^ 36)) in
+    ap (λ (x : ℕ). n * x) (pow-add 2 up 36) ∙ sym (mul_assoc n (2 ^ up) (2 ^ 36)) in
     ap (λ (x : ℕ). x / 2 ^ 36) split ∙ mul-div_left (n * 2 ^ up) (omega arith)
 
 -- below: a division by as many octaves

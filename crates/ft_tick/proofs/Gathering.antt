@@ -35,7 +35,7 @@ unfolding EachVoice
 gathered_all P [] each = λ i d lt. absurd (omega arith)
 gathered_all P (channel ∷ channels) each =
     one_more P channel.voice (gathered channels) (λ v is. each zero v (omega arith) is)
-        (gathered_all P channels (λ c v lt is. each (suc c) v (omega arith) is))
+    (gathered_all P channels (λ c v lt is. each (suc c) v (omega arith) is))
 
 pub gathered_in_range : (channels : List Channel) → AreInRange channels → All IsVoiceInRange (gathered channels)
 unfolding EachVoice
@@ -49,8 +49,8 @@ pub gathered_kept : (keeps : ℕ → SampleHead → Type 0) (channels : List Cha
 unfolding EachVoice
 gathered_kept keeps channels p k = gathered_all (λ voice. keeps voice.channel voice.head) channels
     (λ c v lt is.
-        subst (λ (e : ℕ). keeps e v.head) (sym ((p c lt).home v is))
-        (subst (λ (o : Option Voice). IsKept keeps c o) is (k c lt)))
+    subst (λ (e : ℕ). keeps e v.head) (sym ((p c lt).home v is))
+    (subst (λ (o : Option Voice). IsKept keeps c o) is (k c lt)))
 
 -- a voice was gathered from each channel that had one
 pub gathered_sounds : (channels : List Channel) (c : ℕ) → AreInRange channels → c < length channels
@@ -61,7 +61,7 @@ gathered_sounds channels c p lt =
     ap (λ (l : List Channel). is_some (get_or l c blank_channel).voice) (sym (back channels (home_of channels p)))
     ∙ seated_sounds empty (gathered channels) c within
     ∙ ap (λ (x : Channel). is_some x.voice || sounds_on c (gathered channels))
-        (at_map emptied channels c blank_channel lt)
+    (at_map emptied channels c blank_channel lt)
 
 get_or-front : (front rest : List Channel) (c : ℕ) (d : Channel) → c < length front
     → get_or (front ++ rest) c d ≡ get_or front c d

@@ -15,7 +15,7 @@ last_in_range c channel voice is r =
     let remembered = r.memory in
     let old = r.voice voice is in
     let now : IsVoiceInRange (record voice { last = true }) =
-        record { head = old.head; place = old.place; step = old.step; left = old.left; right = old.right } in
+    record { head = old.head; place = old.place; step = old.step; left = old.left; right = old.right } in
     record {
       memory = search rules;
       voice = λ other same. let it : record voice { last = true } ≡ other = cc in subst IsVoiceInRange it now;
@@ -41,11 +41,11 @@ heard_in_range c channel voice heard is now home r =
 -- the automatic vibrato may go on first: nothing else of the voice hangs on it
 pub sounded :
     (rate global : ℕ) (linear : Bool) (volume panning : Option Envelope) (shape : Option Shape)
-        (channel vibrated on last : Channel) (voice heard : Voice) (offset : ℤ)
+    (channel vibrated on last : Channel) (voice heard : Voice) (offset : ℤ)
     → channel.voice ≡ Some voice → vibrated ≡ with_auto_by shape channel → offset ≡ offset_by shape channel
     → heard ≡ heard_voice linear rate global volume panning offset vibrated voice
     → on ≡ with_envelopes volume panning (record vibrated { voice = Some heard })
-        → last ≡ with_fade (fadeout_of shape) on
+    → last ≡ with_fade (fadeout_of shape) on
     → last ≡ heard_by rate global linear volume panning shape channel.voice channel
 unfolding heard_voice heard_volume heard_period stepped_period glided_period auto_offset
 sounded rate global linear volume panning None channel vibrated on last voice heard offset is v o h e f =

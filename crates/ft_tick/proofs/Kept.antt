@@ -22,8 +22,8 @@ set_in_range channels c channel lt p all d within =
     (λ is. subst (λ (e : ℕ). IsChannelInRange e (get_or (set channels c channel) e blank_channel)) (sym is)
     (subst (IsChannelInRange c) (sym (get_or-set_same channels c channel blank_channel lt)) p))
     (λ ne.
-        subst (IsChannelInRange d) (sym (get_or-set_other channels c d channel blank_channel ne))
-        (all d (omega (arith, length-set channels c channel))))
+    subst (IsChannelInRange d) (sym (get_or-set_other channels c d channel blank_channel ne))
+    (all d (omega (arith, length-set channels c channel))))
 
 stays : (before after : ℕ → SampleHead → Type 0) (d : ℕ) (voice : Option Voice)
     → ((h : SampleHead) → before d h → after d h) → IsKept before d voice → IsKept after d voice
@@ -33,9 +33,9 @@ stays before after d (Some voice) on kept = on voice.head kept
 -- a call for one channel, among all
 pub keeps_one :
     (before after : ℕ → SampleHead → Type 0) (held held_after : List Bool) (channels : List Channel) (c : ℕ)
-        (channel : Channel)
+    (channel : Channel)
     → c < length channels
-        → KeepsFor c before after held held_after (get_or channels c blank_channel).voice channel.voice
+    → KeepsFor c before after held held_after (get_or channels c blank_channel).voice channel.voice
     → KeepsForAll before after held held_after channels (set channels c channel)
 keeps_one before after held held_after channels c channel lt k =
     let here = get_or-set_same channels c channel blank_channel lt in
@@ -44,18 +44,18 @@ keeps_one before after held held_after channels c channel lt k =
           (λ is. subst (λ (e : ℕ). IsKept after e (get_or (set channels c channel) e blank_channel).voice) (sym is)
           (subst (λ (x : Channel). IsKept after c x.voice) (sym here) (k.kept (p c lt))))
           (λ ne. subst (λ (x : Channel). IsKept after d x.voice)
-              (sym (get_or-set_other channels c d channel blank_channel ne))
+          (sym (get_or-set_other channels c d channel blank_channel ne))
           (stays before after d (get_or channels d blank_channel).voice (λ h. k.others d h ne) (p d (omega (arith, length-set channels c channel)))));
       exact = λ p d within. either c d
           (get_or held_after d false ≡ is_some (get_or (set channels c channel) d blank_channel).voice)
           (λ is. subst
-              (λ (e : ℕ). get_or held_after e false ≡ is_some (get_or (set channels c channel) e blank_channel).voice)
-              (sym is)
+          (λ (e : ℕ). get_or held_after e false ≡ is_some (get_or (set channels c channel) e blank_channel).voice)
+          (sym is)
           (k.exact (p c lt) ∙ ap (λ (x : Channel). is_some x.voice) (sym here)))
           (λ ne. ap (λ (l : List Bool). get_or l d false) k.alone
-              ∙ get_or-set_other held c d (get_or held_after c false) false ne
+          ∙ get_or-set_other held c d (get_or held_after c false) false ne
           ∙ p d (omega (arith, length-set channels c channel))
-              ∙ ap (λ (x : Channel). is_some x.voice) (sym (get_or-set_other channels c d channel blank_channel ne)));
+          ∙ ap (λ (x : Channel). is_some x.voice) (sym (get_or-set_other channels c d channel blank_channel ne)));
       many = length-set channels c channel;
       wide = ap (λ (l : List Bool). length l) k.alone ∙ length-set held c (get_or held_after c false);
     }
@@ -73,7 +73,7 @@ keeps_then a b c h k l x y z p q = record {
 pub keeps_voice :
     (before after : ℕ → SampleHead → Type 0) (held held_after : List Bool) (c : ℕ) (voice voice_after : Option Voice)
     → held_after ≡ held → ((d : ℕ) (h : SampleHead) → before d h → after d h)
-        → (IsKept before c voice → IsKept after c voice_after) → is_some voice_after ≡ is_some voice
+    → (IsKept before c voice → IsKept after c voice_after) → is_some voice_after ≡ is_some voice
     → held ≡ set held c (get_or held c false) → KeepsFor c before after held held_after voice voice_after
 keeps_voice before after held held_after c voice voice_after same on kept sounds back = record {
   kept = kept;
@@ -96,7 +96,7 @@ keeps_lead a b c h k l x y on same p = record {
 -- channels whose voices are the same
 pub keeps_same : (a c : ℕ → SampleHead → Type 0) (h l : List Bool) (x y z : List Channel) → length y ≡ length x
     → ((d : ℕ) → d < length x → (get_or y d blank_channel).voice ≡ (get_or x d blank_channel).voice)
-        → KeepsForAll a c h l y z → KeepsForAll a c h l x z
+    → KeepsForAll a c h l y z → KeepsForAll a c h l x z
 keeps_same a c h l x y z many voices p = record {
   kept = λ s. p.kept (λ d lt. subst (IsKept a d) (sym (voices d (omega arith))) (s d (omega arith)));
   exact = λ s. p.exact (λ d lt. s d (omega arith) ∙ ap is_some (sym (voices d (omega arith))));
@@ -106,7 +106,7 @@ keeps_same a c h l x y z many voices p = record {
 
 pub keeps_after : (a c : ℕ → SampleHead → Type 0) (h l : List Bool) (x y z : List Channel) → length z ≡ length y
     → ((d : ℕ) → d < length y → (get_or z d blank_channel).voice ≡ (get_or y d blank_channel).voice)
-        → KeepsForAll a c h l x y → KeepsForAll a c h l x z
+    → KeepsForAll a c h l x y → KeepsForAll a c h l x z
 keeps_after a c h l x y z many voices p = record {
   kept =
       λ s d lt.

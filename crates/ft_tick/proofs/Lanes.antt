@@ -17,7 +17,7 @@ length-lanes_of (channel ∷ channels) (owned ∷ kept) = ap suc (length-lanes_o
 
 pub get_or-lanes_of : (channels : List Channel) (kept : List (Option Owned)) (c : ℕ) (d : Channel) → c < length channels
     → get_or (lanes_of channels kept) c blank_lane
-        ≡ record { channel = get_or channels c d; owned = get_or kept c None }
+    ≡ record { channel = get_or channels c d; owned = get_or kept c None }
 get_or-lanes_of [] kept c d lt = absurd (omega arith)
 get_or-lanes_of (channel ∷ channels) [] zero d lt = refl
 get_or-lanes_of (channel ∷ channels) [] (suc c) d lt = get_or-lanes_of channels [] c d (omega arith)
@@ -27,13 +27,13 @@ get_or-lanes_of (channel ∷ channels) (owned ∷ kept) (suc c) d lt = get_or-la
 pub set-lanes_of : (channels : List Channel) (kept : List (Option Owned)) (c : ℕ) (channel : Channel)
     (owned : Option Owned) → length channels ≤ length kept
     → lanes_of (set channels c channel) (set kept c owned)
-        ≡ set (lanes_of channels kept) c (record { channel = channel; owned = owned })
+    ≡ set (lanes_of channels kept) c (record { channel = channel; owned = owned })
 set-lanes_of [] kept c channel owned le = refl
 set-lanes_of (x ∷ channels) [] c channel owned le = absurd (omega arith)
 set-lanes_of (x ∷ channels) (y ∷ kept) zero channel owned le = refl
 set-lanes_of (x ∷ channels) (y ∷ kept) (suc c) channel owned le =
     ap (λ (l : List Lane). record { channel = x; owned = y } ∷ l)
-        (set-lanes_of channels kept c channel owned (omega arith))
+    (set-lanes_of channels kept c channel owned (omega arith))
 
 pub lanes_of-map : (rule : Channel → Channel) (channels : List Channel) (kept : List (Option Owned))
     → lanes_of (map rule channels) kept ≡ map (with_channel rule) (lanes_of channels kept)
@@ -46,7 +46,7 @@ lanes_of-map rule (channel ∷ channels) (owned ∷ kept) =
 -- a turn of one channel, seen in the whole state
 turned :
     (rule : ℕ → Turn → Turn) (c : ℕ) (before after : Shown) (control control_after : Control) (channels : List Channel)
-        (channel : Channel)
+    (channel : Channel)
     → c < length channels → length channels ≤ length before.kept
     → Turned c (rule c (turn_of c before (get_or channels c blank_channel) control)) before after channel control_after
     → state_of control_after (set channels c channel) after ≡ one_turn rule c (state_of control channels before)
@@ -54,23 +54,23 @@ turned rule c before after control control_after channels channel lt le t =
     let made : Turn = rule c (turn_of c before (get_or channels c blank_channel) control) in
     let at : turn_at c (state_of control channels before) ≡ turn_of c before (get_or channels c blank_channel) control =
     ap (λ (l : Lane). record { lane = l; control = control }) (get_or-lanes_of channels before.kept c blank_channel lt)
-        in
+    in
     let new : state_of control_after (set channels c channel) after
-        ≡ with_turn c made (state_of control channels before) =
+    ≡ with_turn c made (state_of control channels before) =
     rw (t.same, t.lane.same, t.lane.kept)
-        (ap (λ (l : List Lane). record { control = made.control; lanes = l })
-            (set-lanes_of channels before.kept c made.lane.channel made.lane.owned le)) in
+    (ap (λ (l : List Lane). record { control = made.control; lanes = l })
+    (set-lanes_of channels before.kept c made.lane.channel made.lane.owned le)) in
     new ∙ ap (λ (x : Turn). with_turn c (rule c x) (state_of control channels before)) (sym at)
 
 -- the same with what stands behind the view before and after
 pub turn_made :
     (rule : ℕ → Module → ℕ → Turn → Turn) (c : ℕ) (before after : Shown) (control control_after : Control)
-        (channels : List Channel) (channel : Channel)
+    (channels : List Channel) (channel : Channel)
     → c < length channels → length channels ≤ length before.kept
     → Turned c (rule before.version before.song c (turn_of c before (get_or channels c blank_channel) control)) before
-        after channel control_after
+    after channel control_after
     → Made (λ version song state. one_turn (rule version song) c state) before after (state_of control channels before)
-        (state_of control_after (set channels c channel) after)
+    (state_of control_after (set channels c channel) after)
 turn_made rule c before after control control_after channels channel lt le t = record {
   version = ap (λ (s : Shown). s.version) t.lane.kept;
   song = ap (λ (s : Shown). s.song) t.lane.kept;
@@ -93,11 +93,11 @@ made_as f g a b x y e p = record { version = p.version; song = p.song; state = p
 -- one channel more has taken its turn
 pub next_turn : (rule : ℕ → Module → ℕ → Turn → Turn) (i : ℕ) (a b c : Shown) (x y z : SequentialState)
     → Made (λ version song state. in_turn (rule version song) i state) a b x y
-        → Made (λ version song state. one_turn (rule version song) i state) b c y z
+    → Made (λ version song state. one_turn (rule version song) i state) b c y z
     → Made (λ version song state. in_turn (rule version song) (i + 1) state) a c x z
 next_turn rule i a b c x y z p q =
     rw (add-one i) (made_then
-        (λ (version : ℕ) (song : Module) (state : SequentialState). in_turn (rule version song) i state)
+    (λ (version : ℕ) (song : Module) (state : SequentialState). in_turn (rule version song) i state)
     (λ (version : ℕ) (song : Module) (state : SequentialState). one_turn (rule version song) i state) a b c x y z p q)
 
 -- the same call, seen from a state before

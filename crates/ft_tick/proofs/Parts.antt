@@ -34,11 +34,11 @@ taken_empty used time channels voices p c lt =
 -- what the seated channels keep, the voices keep
 pub parts_keep :
     (before after : ℕ → SampleHead → Type 0) (held held_after : List Bool) (used : ℕ) (time next : Control)
-        (channels seats made : List Channel) (voices out : List Voice)
+    (channels seats made : List Channel) (voices out : List Voice)
     → IsBetweenTicks used time channels voices → used ≤ length channels → seats ≡ seated (take used channels) voices
-        → length seats ≡ used → used ≡ length held
+    → length seats ≡ used → used ≡ length held
     → KeepsForAll before after held held_after seats made → IsInRange next made → out ≡ gathered made
-        → KeepsVoices before after held held_after voices out
+    → KeepsVoices before after held held_after voices out
 parts_keep before after held held_after used time next channels seats made voices out p le sits many wide k range o =
     let empty = taken_empty used time channels voices p in
     let as_many : length made ≡ used = k.many ∙ many in

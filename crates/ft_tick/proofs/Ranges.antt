@@ -20,7 +20,7 @@ pub map_in_range : (rule : Channel → Channel) (channels : List Channel)
 map_in_range rule channels each p c lt =
     let inside : c < length channels = omega (arith, length-map channels rule) in
     subst (IsChannelInRange c) (sym (at_map rule channels c blank_channel inside))
-        (each c (get_or channels c blank_channel) (p c inside))
+    (each c (get_or channels c blank_channel) (p c inside))
 
 pub without_loop_in_range : (c : ℕ) (channel : Channel) → IsChannelInRange c channel
     → IsChannelInRange c (without_loop channel)

@@ -37,20 +37,20 @@ as_many channels cleared shown e =
 pub rows_first : (version : ℕ) (song : Module) (control : Control) (channels cleared : List Channel) (shown : Shown)
     → cleared ≡ map without_offsets channels → control.tick ≡ 0
     → in_turn (first_turn version song) (length cleared) (state_of control cleared shown)
-        ≡ after_rows version song (state_of control channels shown)
+    ≡ after_rows version song (state_of control channels shown)
 unfolding after_rows fresh_of
 rows_first version song control channels cleared shown e at =
     let is : eqb control.tick 0 ≡ true = eq-eqb control.tick 0 at in
     rw is (ap (λ (n : ℕ). in_turn (first_turn version song) n (state_of control cleared shown))
-        (as_many channels cleared shown e)
+    (as_many channels cleared shown e)
     ∙ ap (in_turn (first_turn version song) (length (lanes_of channels shown.kept)))
-        (cleared_state control channels cleared shown e))
+    (cleared_state control channels cleared shown e))
 
 -- where a row is repeated, at its first tick
 pub rows_again : (version : ℕ) (song : Module) (control : Control) (channels cleared : List Channel) (shown : Shown)
     → cleared ≡ map without_offsets channels → control.tick ≢ 0
     → control.tick % control.tempo ≡ 0
-        → state_of control cleared shown ≡ after_rows version song (state_of control channels shown)
+    → state_of control cleared shown ≡ after_rows version song (state_of control channels shown)
 unfolding after_rows fresh_of
 rows_again version song control channels cleared shown e later again =
     let is : eqb control.tick 0 ≡ false = ne_eqb control.tick 0 later in
@@ -62,15 +62,15 @@ pub rows_later : (version : ℕ) (song : Module) (control : Control) (channels c
     → cleared ≡ map without_offsets channels → control.tick ≢ 0
     → control.tick % control.tempo ≢ 0
     → in_turn (later_turn version song) (length cleared) (state_of control cleared shown)
-        ≡ after_rows version song (state_of control channels shown)
+    ≡ after_rows version song (state_of control channels shown)
 unfolding after_rows fresh_of
 rows_later version song control channels cleared shown e later on =
     let is : eqb control.tick 0 ≡ false = ne_eqb control.tick 0 later in
     let rest : eqb (control.tick % control.tempo) 0 ≡ false = ne_eqb (control.tick % control.tempo) 0 on in
     rw (is, rest) (ap (λ (n : ℕ). in_turn (later_turn version song) n (state_of control cleared shown))
-        (as_many channels cleared shown e)
+    (as_many channels cleared shown e)
     ∙ ap (in_turn (later_turn version song) (length (lanes_of channels shown.kept)))
-        (cleared_state control channels cleared shown e))
+    (cleared_state control channels cleared shown e))
 
 -- cleared channels have the same voices
 pub keeps_cleared : (a c : ℕ → SampleHead → Type 0) (h l : List Bool) (channels cleared z : List Channel)
@@ -79,5 +79,5 @@ pub keeps_cleared : (a c : ℕ → SampleHead → Type 0) (h l : List Bool) (cha
 keeps_cleared a c h l channels cleared z e p =
     keeps_same a c h l channels cleared z (ap (λ (x : List Channel). length x) e ∙ length-map channels without_offsets)
     (λ d lt.
-        ap (λ (x : List Channel). (get_or x d blank_channel).voice) e
-        ∙ ap (λ (x : Channel). x.voice) (at_map without_offsets channels d blank_channel lt)) p
+    ap (λ (x : List Channel). (get_or x d blank_channel).voice) e
+    ∙ ap (λ (x : Channel). x.voice) (at_map without_offsets channels d blank_channel lt)) p

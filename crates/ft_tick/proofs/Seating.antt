@@ -34,26 +34,26 @@ by_voice : (front channels : List Channel) (channel : Channel) (voice : Option V
     → IsHome (length front) voice
     → seated ((front ++ channel ∷ []) ++ map emptied channels) (gathered channels) ≡ (front ++ channel ∷ []) ++ channels
     → seated (front ++ emptied channel ∷ map emptied channels) (option_to_list voice ++ gathered channels)
-        ≡ front ++ channel ∷ channels
+    ≡ front ++ channel ∷ channels
 unfolding IsHome
 by_voice front channels channel None e h so_far =
     ap
-        (λ (x : Option Voice).
-            seated (front ++ (record channel { voice = x }) ∷ map emptied channels) (gathered channels)) (sym e)
+    (λ (x : Option Voice).
+    seated (front ++ (record channel { voice = x }) ∷ map emptied channels) (gathered channels)) (sym e)
     ∙ ap (λ (l : List Channel). seated l (gathered channels))
-        (sym (append_assoc front (channel ∷ []) (map emptied channels))) ∙ so_far
-        ∙ append_assoc front (channel ∷ []) channels
+    (sym (append_assoc front (channel ∷ []) (map emptied channels))) ∙ so_far
+    ∙ append_assoc front (channel ∷ []) channels
 by_voice front channels channel (Some v) e h so_far =
     let rest = map emptied channels in
     let all : List Channel = front ++ emptied channel ∷ rest in
     let sits : seat_of v all ≡ front ++ channel ∷ rest =
     ap (λ (n : ℕ). set all n (record (get_or all n blank_channel) { voice = Some v })) (h v refl)
     ∙ ap (λ (x : Channel). set all (length front) (record x { voice = Some v }))
-        (get_seam front rest (emptied channel) blank_channel)
+    (get_seam front rest (emptied channel) blank_channel)
     ∙ set_seam front rest (emptied channel) (record channel { voice = Some v })
     ∙ ap (λ (x : Option Voice). front ++ (record channel { voice = x }) ∷ rest) (sym e) in
     ap (λ (l : List Channel). seated l (gathered channels)) (sits ∙ sym (append_assoc front (channel ∷ []) rest))
-        ∙ so_far ∙ append_assoc front (channel ∷ []) channels
+    ∙ so_far ∙ append_assoc front (channel ∷ []) channels
 
 back_from : (front channels : List Channel) → HomeFrom (length front) channels
     → seated (front ++ map emptied channels) (gathered channels) ≡ front ++ channels
@@ -61,9 +61,9 @@ unfolding HomeFrom
 back_from front [] h = refl
 back_from front (channel ∷ channels) h =
     let longer : length front + 1 ≡ length (front ++ channel ∷ []) =
-        omega (arith, length-append front (channel ∷ [])) in
+    omega (arith, length-append front (channel ∷ [])) in
     by_voice front channels channel channel.voice refl h.0
-        (back_from (front ++ channel ∷ []) channels (subst (λ (n : ℕ). HomeFrom n channels) longer h.1))
+    (back_from (front ++ channel ∷ []) channels (subst (λ (n : ℕ). HomeFrom n channels) longer h.1))
 
 home_from : (n : ℕ) (channels : List Channel)
     → ((c : ℕ) → c < length channels → IsHome (n + c) (get_or channels c blank_channel).voice) → HomeFrom n channels
@@ -74,7 +74,7 @@ home_from n (channel ∷ channels) h =
       subst (λ (k : ℕ). IsHome k channel.voice) none (h 0 (omega arith)),
       home_from (n + 1) channels (λ c lt. let k : n + (c + 1) ≡ n + 1 + c = omega arith in
           subst (λ (j : ℕ). IsHome j (get_or channels c blank_channel).voice) k
-              (subst (λ (j : ℕ). IsHome (n + j) (get_or channels c blank_channel).voice) (sym (add-one c)) (h (suc c) (omega arith)))),
+          (subst (λ (j : ℕ). IsHome (n + j) (get_or channels c blank_channel).voice) (sym (add-one c)) (h (suc c) (omega arith)))),
     )
 
 all_home : (channels : List Channel) → AllHome channels → HomeFrom 0 channels
@@ -82,8 +82,8 @@ unfolding IsHome
 all_home channels h =
     home_from 0 channels
     (λ c lt.
-        let k : 0 + c ≡ c = omega arith in
-        subst (λ (j : ℕ). IsHome j (get_or channels c blank_channel).voice) (sym k) (λ v is. h c v lt is))
+    let k : 0 + c ≡ c = omega arith in
+    subst (λ (j : ℕ). IsHome j (get_or channels c blank_channel).voice) (sym k) (λ v is. h c v lt is))
 
 -- the voices of channels, seated again
 pub back : (channels : List Channel) → AllHome channels → seated (map emptied channels) (gathered channels) ≡ channels
@@ -102,12 +102,12 @@ next_gather channels k d lt = rw (drop-cons channels k d lt, add-one k) refl
 pub more_gathered : (on : List Voice) (channels : List Channel) (c : ℕ) (x : Channel) (total : List Voice)
     → c < length channels → on ++ gathered (drop c channels) ≡ total
     → (on ++ option_to_list (get_or channels c blank_channel).voice) ++ gathered (drop (c + 1) (set channels c x))
-        ≡ total
+    ≡ total
 more_gathered on channels c x total lt e =
     append_assoc on (option_to_list (get_or channels c blank_channel).voice)
-        (gathered (drop (c + 1) (set channels c x)))
+    (gathered (drop (c + 1) (set channels c x)))
     ∙ ap (λ (l : List Channel). on ++ (option_to_list (get_or channels c blank_channel).voice ++ gathered l))
-        (drop-set-lt (c + 1) channels c x (omega arith))
+    (drop-set-lt (c + 1) channels c x (omega arith))
     ∙ ap (λ (l : List Voice). on ++ l) (sym (next_gather channels c blank_channel lt)) ∙ e
 
 -- the meaning of channels whose voices were gathered

@@ -8,9 +8,9 @@ use Rattle.ft_replay.specs.Standing.{Made}
 
 pub makes_shown : {V W : Type 0}
     → (shows : V → W → Type 0) (shown : V → W → Shown) (rule : ℕ → Module → SequentialState → SequentialState)
-        (view view_after : V)
+    (view view_after : V)
     (state state_after : Shown → SequentialState) → Makes shows shown rule view view_after state state_after
-        → MakesShown shows shown rule view view_after state state_after
+    → MakesShown shows shown rule view view_after state state_after
 makes_shown shows shown rule view view_after state state_after makes after may =
     let w = may.0 in
     let made = makes w may.1 in

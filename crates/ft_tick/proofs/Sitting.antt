@@ -40,11 +40,13 @@ seated_in_range low high channels [] ascend le v p = p
 seated_in_range low high channels (voice ∷ voices) ascend le v p =
     let inside = ascend.1 in
     seated_in_range (voice.channel + 1) high (seat_of voice channels) voices ascend.2
-        (omega
-            (arith, length-set channels voice.channel
-                (record (get_or channels voice.channel blank_channel) { voice = Some voice })))
+    (omega (
+      arith,
+      length-set channels voice.channel
+          (record (get_or channels voice.channel blank_channel) { voice = Some voice }),
+    ))
     (others IsVoiceInRange voice voices v)
-        (seat_in_range voice channels (omega arith) (first IsVoiceInRange voice voices v) p)
+    (seat_in_range voice channels (omega arith) (first IsVoiceInRange voice voices v) p)
 
 get_or-take : (channels : List Channel) (n c : ℕ) (d : Channel) → c < n
     → get_or (take n channels) c d ≡ get_or channels c d
@@ -57,7 +59,7 @@ get_or-take (channel ∷ channels) (suc n) (suc c) d lt = get_or-take channels n
 -- channels of which none has a voice are in range where their memories are
 pub empty_in_range : (channels : List Channel) (used : ℕ) → used ≤ length channels
     → ((c : ℕ) → c < used → IsMemoryInRange (get_or channels c blank_channel))
-        → ((c : ℕ) → c < used → (get_or channels c blank_channel).voice ≡ None)
+    → ((c : ℕ) → c < used → (get_or channels c blank_channel).voice ≡ None)
     → AreInRange (take used channels)
 empty_in_range channels used le memories none c lt =
     let inside : c < used = omega (arith, length-take used channels) in
@@ -84,9 +86,9 @@ seat_kept keeps voice channels lt k p c within =
     (λ is. subst (λ (e : ℕ). IsKept keeps e (get_or (set channels voice.channel new) e blank_channel).voice) (sym is)
     (subst (λ (x : Channel). IsKept keeps voice.channel x.voice) (sym (get_or-set_same channels voice.channel new blank_channel lt)) k))
     (λ ne.
-        subst (λ (x : Channel). IsKept keeps c x.voice)
-        (sym (get_or-set_other channels voice.channel c new blank_channel ne))
-        (p c (omega (arith, length-set channels voice.channel new))))
+    subst (λ (x : Channel). IsKept keeps c x.voice)
+    (sym (get_or-set_other channels voice.channel c new blank_channel ne))
+    (p c (omega (arith, length-set channels voice.channel new))))
 
 pub seated_kept : (keeps : ℕ → SampleHead → Type 0) (low high : ℕ) (channels : List Channel) (voices : List Voice)
     → IsAscending low high voices → high ≤ length channels
@@ -96,11 +98,13 @@ seated_kept keeps low high channels [] ascend le v p = p
 seated_kept keeps low high channels (voice ∷ voices) ascend le v p =
     let inside = ascend.1 in
     seated_kept keeps (voice.channel + 1) high (seat_of voice channels) voices ascend.2
-        (omega
-            (arith, length-set channels voice.channel
-                (record (get_or channels voice.channel blank_channel) { voice = Some voice })))
+    (omega (
+      arith,
+      length-set channels voice.channel
+          (record (get_or channels voice.channel blank_channel) { voice = Some voice }),
+    ))
     (others (λ x. keeps x.channel x.head) voice voices v)
-        (seat_kept keeps voice channels (omega arith) (first (λ x. keeps x.channel x.head) voice voices v) p)
+    (seat_kept keeps voice channels (omega arith) (first (λ x. keeps x.channel x.head) voice voices v) p)
 
 pub none_kept : (keeps : ℕ → SampleHead → Type 0) (channels : List Channel)
     → ((c : ℕ) → c < length channels → (get_or channels c blank_channel).voice ≡ None) → AreKept keeps channels
@@ -119,7 +123,7 @@ or_true false = refl
 -- a channel has a voice where it had one, or one sits down on it
 pub seated_sounds : (channels : List Channel) (voices : List Voice) (c : ℕ) → c < length channels
     → is_some (get_or (seated channels voices) c blank_channel).voice
-        ≡ (is_some (get_or channels c blank_channel).voice || sounds_on c voices)
+    ≡ (is_some (get_or channels c blank_channel).voice || sounds_on c voices)
 seated_sounds channels [] c lt = sym (or_false (is_some (get_or channels c blank_channel).voice))
 seated_sounds channels (voice ∷ voices) c lt =
     let new = record (get_or channels voice.channel blank_channel) { voice = Some voice } in
@@ -129,7 +133,7 @@ seated_sounds channels (voice ∷ voices) c lt =
     (λ is.
     let here : get_or (set channels voice.channel new) c blank_channel ≡ new =
     ap (λ (e : ℕ). get_or (set channels voice.channel new) e blank_channel) is
-        ∙ get_or-set_same channels voice.channel new blank_channel (omega (arith, is)) in
+    ∙ get_or-set_same channels voice.channel new blank_channel (omega (arith, is)) in
     let same : eqb voice.channel c ≡ true = eq-eqb voice.channel c (sym is) in
     more ∙ ap (λ (x : Channel). is_some x.voice || sounds_on c voices) here
     ∙ or_true (is_some (get_or channels c blank_channel).voice)
@@ -137,6 +141,6 @@ seated_sounds channels (voice ∷ voices) c lt =
     (λ ne.
     let far : eqb voice.channel c ≡ false = ne_eqb voice.channel c (λ e. ne (sym e)) in
     more
-        ∙ ap (λ (x : Channel). is_some x.voice || sounds_on c voices)
-            (get_or-set_other channels voice.channel c new blank_channel ne)
+    ∙ ap (λ (x : Channel). is_some x.voice || sounds_on c voices)
+    (get_or-set_other channels voice.channel c new blank_channel ne)
     ∙ ap (λ (b : Bool). is_some (get_or channels c blank_channel).voice || (b || sounds_on c voices)) (sym far))

@@ -76,8 +76,8 @@ pub text_never_none : (a : App) (k : ℕ) (r : Rule) (m : ArgMatches) (o : Optio
 text_never_none a k r m o g h read none =
     let t = text_given a k r m g h in
     true≢false
-        (sym (ap is_some t.1) ∙ ap is_some (sym read)
-            ∙ ap (λ (x : Option (Bor Text)). is_some (option_map (λ s. s.now) x)) none)
+    (sym (ap is_some t.1) ∙ ap is_some (sym read)
+    ∙ ap (λ (x : Option (Bor Text)). is_some (option_map (λ s. s.now) x)) none)
 
 -- and its answer is the text in the exact matches
 pub named_is : (a : App) (ws : List Text) (m : ArgMatches) (id : Text) (texts : List (String Global)) (s : Bor Text)
@@ -95,12 +95,12 @@ IsNumberIn a ws id low high n = IsNumberOf a ws id n × (low ≤ n) × (n ≤ hi
 module _ (E : Type 0) (ReadsNumber : Text → Result ℕ E → Type 0)
     (only : (u : Text) (x : Result ℕ E) → ReadsNumber u x → ParsesUnsigned 32 10 u x)
     (a : App) (k : ℕ) (r : Rule) (ws : List Text) (m : ArgMatches) (low high : ℕ) (g : IsArgument a k r)
-        (h : IsParseOf a m)
+    (h : IsParseOf a m)
     (parser : r.parser ≡ Some (numbers_within low high)) (fits : high < 2 ^ 32)
     (o : Option ℕ) (reads : (t : Text) → one_text (found_of m) r.id ≡ Some t → ReadsOne ReadsNumber t o) where
   passed :
       (t : Text) × (one_text (found_of m) r.id ≡ Some (without_minus t))
-          × Accepts r.ignore_case (numbers_within low high) t
+      × Accepts r.ignore_case (numbers_within low high) t
   passed = value_passes h.0 m h.2 a h.1 g.sound k r g.there g.alone g.set g.one g.comes g.own (numbers_within low high)
       parser
 
@@ -117,8 +117,7 @@ module _ (E : Type 0) (ReadsNumber : Text → Result ℕ E → Type 0)
   number_is n exact is =
       let same : some_number.0 ≡ n = ap (λ x. unwrap_or x n) (sym some_number.1 ∙ is) in
       let spelled : ReadsNumber (without_minus passed.0) (Ok n) =
-          subst (λ x. ReadsOne ReadsNumber (without_minus passed.0) x) is (reads (without_minus passed.0) passed.1) in
-          (
+      subst (λ x. ReadsOne ReadsNumber (without_minus passed.0) x) is (reads (without_minus passed.0) passed.1) in (
         (without_minus passed.0, ap (one_of r.id) (sym exact.1) ∙ sym (one_text-rows (found_of m) r.id) ∙ passed.1, ((only _ _ spelled).0.0, (only _ _ spelled).1)),
         subst (λ x. low ≤ x) same some_number.2,
         subst (λ x. x ≤ high) same some_number.3,

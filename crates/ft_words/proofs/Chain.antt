@@ -23,8 +23,8 @@ copy_built p e = e
 
 pub gen_built : (p : App)
     → p
-        ≡ with_rule (with_rule (bare_app (codes "gen")) (number_rule (codes "number") (numbers_within 0 4294967295)))
-            (file_rule (codes "out")) → p ≡ gen_app
+    ≡ with_rule (with_rule (bare_app (codes "gen")) (number_rule (codes "number") (numbers_within 0 4294967295)))
+    (file_rule (codes "out")) → p ≡ gen_app
 unfolding gen_app
 gen_built p e = e
 

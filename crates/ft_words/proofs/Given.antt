@@ -194,7 +194,7 @@ module _ (c : Command) (m : ArgMatches) (p : IsParsedFrom c m) (a : App) (is : a
   one_or_more : 1 ≤ least_values mine
   one_or_more =
       let e : least_values mine ≡ 1 =
-          ap (λ o. (unwrap_or_range o).start_inclusive) (ap (λ (s : Rule). s.range) here.2 ∙ one) in
+      ap (λ o. (unwrap_or_range o).start_inclusive) (ap (λ (s : Rule). s.range) here.2 ∙ one) in
       omega arith
 
   wants : r.required ≡ false → WantsDefault mine
@@ -208,7 +208,7 @@ module _ (c : Command) (m : ArgMatches) (p : IsParsedFrom c m) (a : App) (is : a
       go : (b : Bool) → r.required ≡ b → is_some (matched_of (found_of m) mine.id.now) ≡ true
       go true e = present_has_entry (found_of m) mine.id.now
           (required_present c m p (plain_of c sound_c) (no_globals c sound_c) (negates_nothing c sound_c) k here.0
-              here.1 (ap (λ (s : Rule). s.required) here.2 ∙ e))
+          here.1 (ap (λ (s : Rule). s.required) here.2 ∙ e))
       go false e = has_in (found_of m).entries.items mine.id.now
           (default_present c m p (no_globals c sound_c) k here.0 here.1 (wants e))
 
@@ -264,8 +264,8 @@ module _ (c : Command) (m : ArgMatches) (p : IsParsedFrom c m) (a : App) (is : a
       go None e some = absurd (true≢false (sym some ∙ ap is_some e))
       go (Some x) e some =
           let got =
-              entry_by_id (EntryPasses p.built) (found_of m).entries.items mine.id.now x
-              (p.parsed (p.from.globals ∙ no_globals c sound_c)).values e in
+          entry_by_id (EntryPasses p.built) (found_of m).entries.items mine.id.now x
+          (p.parsed (p.from.globals ∙ no_globals c sound_c)).values e in
           (x, e, subst Given got.1 (given_by got.0 ((bytes_eq-Decides got.0.0.now mine.id.now).0 got.2) got.3))
 
   -- the argument has a first value

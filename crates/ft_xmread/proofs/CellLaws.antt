@@ -66,21 +66,21 @@ abbrev others_at : ℕ → Reading (ℕ × (ℕ × (ℕ × (ℕ × ℕ))))
 others_at first =
     both (note_at first)
     (λ _.
-        both (byte_if (has first 2))
-        (λ _. both (byte_if (has first 4)) (λ _. both (byte_if (has first 8)) (λ _. byte_if (has first 16)))))
+    both (byte_if (has first 2))
+    (λ _. both (byte_if (has first 4)) (λ _. both (byte_if (has first 8)) (λ _. byte_if (has first 16)))))
 
 abbrev OthersFit : ℕ → ℕ × (ℕ × (ℕ × (ℕ × ℕ))) → Type 0
 OthersFit first x =
     IsNote (nat_lt first 128) first x.0
     × (IsByteIf (has first 2) x.1.0
-        × (IsByteIf (has first 4) x.1.1.0 × (IsByteIf (has first 8) x.1.1.1.0 × IsByteIf (has first 16) x.1.1.1.1)))
+    × (IsByteIf (has first 4) x.1.1.0 × (IsByteIf (has first 8) x.1.1.1.0 × IsByteIf (has first 16) x.1.1.1.1)))
 
 abbrev others_text : ℕ → ℕ × (ℕ × (ℕ × (ℕ × ℕ))) → List ℕ
 others_text first x =
     note_text (nat_lt first 128) first x.0
     ++ (byte_if_text (has first 2) x.1.0
-        ++ (byte_if_text (has first 4) x.1.1.0
-            ++ (byte_if_text (has first 8) x.1.1.1.0 ++ byte_if_text (has first 16) x.1.1.1.1)))
+    ++ (byte_if_text (has first 4) x.1.1.0
+    ++ (byte_if_text (has first 8) x.1.1.1.0 ++ byte_if_text (has first 16) x.1.1.1.1)))
 
 abbrev PartsFit : RawCell → Type 0
 PartsFit raw = IsNumber 1 raw.first × OthersFit raw.first (parts_of raw).1
@@ -99,18 +99,18 @@ alike : Alike raw_cell_at raw_cell_parts
 unfolding raw_cell_at
 alike = next_alike make (number_at 1) others_at
     (λ first.
-        do5 (note_at first) (byte_if (has first 2)) (byte_if (has first 4)) (byte_if (has first 8))
-        (byte_if (has first 16)) (made first))
+    do5 (note_at first) (byte_if (has first 2)) (byte_if (has first 4)) (byte_if (has first 8))
+    (byte_if (has first 16)) (made first))
     (λ first.
-        alike5 (note_at first) (byte_if (has first 2)) (byte_if (has first 4)) (byte_if (has first 8))
-        (byte_if (has first 16)) (made first))
+    alike5 (note_at first) (byte_if (has first 2)) (byte_if (has first 4)) (byte_if (has first 8))
+    (byte_if (has first 16)) (made first))
 
 parts_law : Lawful raw_cell_parts raw_cell_text PartsFit
 unfolding raw_cell_text
 parts_law = kept_law make parts_of _ _ _
     (both_law (number_at 1) others_at byte others_text (IsNumber 1) OthersFit byte_law
     (λ first _. pair_law _ _ _ _ _ _ (note_law first) (pair_law _ _ _ _ _ _ (byte_if_law (has first 2)) (pair_law _ _ _
-        _ _ _ (byte_if_law (has first 4))
+    _ _ _ (byte_if_law (has first 4))
     (pair_law _ _ _ _ _ _ (byte_if_law (has first 8)) (byte_if_law (has first 16)))))))
     (λ _ _. refl) (λ _. refl)
 
@@ -119,18 +119,18 @@ raw_cell_law =
     alike_law raw_cell_at raw_cell_parts raw_cell_text RawCellFits alike (refit_law raw_cell_parts raw_cell_text
     PartsFit RawCellFits parts_law
     (λ raw f.
-        record {
-          first = f.0;
-          note = f.1.0;
-          instrument = f.1.1.0;
-          volume = f.1.1.1.0;
-          effect = f.1.1.1.1.0;
-          parameter = f.1.1.1.1.1;
-        })
+    record {
+      first = f.0;
+      note = f.1.0;
+      instrument = f.1.1.0;
+      volume = f.1.1.1.0;
+      effect = f.1.1.1.1.0;
+      parameter = f.1.1.1.1.1;
+    })
     (λ raw g. (g.first, (g.note, (g.instrument, (g.volume, (g.effect, g.parameter)))))))
 
 pub cell_law : (pattern : ℕ) → Spelled (cell_spelled_at pattern) raw_cell_text RawCellFits cell_of
 unfolding cell_spelled_at
 cell_law pattern = seen_spelled cell_of (inside pattern raw_cell_at) raw_cell_text RawCellFits same
     (inside_spelled pattern raw_cell_at raw_cell_text RawCellFits same
-        (lawful_spelled raw_cell_at raw_cell_text RawCellFits raw_cell_law))
+    (lawful_spelled raw_cell_at raw_cell_text RawCellFits raw_cell_law))

@@ -41,7 +41,7 @@ alike3 one two three f =
 
 pub alike4 :
     {A B C D Z : Type 0} (one : Reading A) (two : Reading B) (three : Reading C) (four : Reading D)
-        (f : A → B → C → D → Z)
+    (f : A → B → C → D → Z)
     → Alike (do4 one two three four f) (seen (λ x. f x.0 x.1.0 x.1.1.0 x.1.1.1) (both4 one two three four))
 alike4 one two three four f =
     next_alike (λ x. f x.0 x.1.0 x.1.1.0 x.1.1.1) one (λ _. both3 two three four) (λ a. do3 two three four (f a))
@@ -49,9 +49,9 @@ alike4 one two three four f =
 
 pub alike5 :
     {A B C D E Z : Type 0} (one : Reading A) (two : Reading B) (three : Reading C) (four : Reading D) (five : Reading E)
-        (f : A → B → C → D → E → Z)
+    (f : A → B → C → D → E → Z)
     → Alike (do5 one two three four five f)
-        (seen (λ x. f x.0 x.1.0 x.1.1.0 x.1.1.1.0 x.1.1.1.1) (both5 one two three four five))
+    (seen (λ x. f x.0 x.1.0 x.1.1.0 x.1.1.1.0 x.1.1.1.1) (both5 one two three four five))
 alike5 one two three four five f =
     next_alike (λ x. f x.0 x.1.0 x.1.1.0 x.1.1.1.0 x.1.1.1.1) one (λ _. both4 two three four five)
-        (λ a. do4 two three four five (f a)) (λ a. alike4 two three four five (f a))
+    (λ a. do4 two three four five (f a)) (λ a. alike4 two three four five (f a))

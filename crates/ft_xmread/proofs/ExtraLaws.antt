@@ -123,9 +123,9 @@ envelopes_alike = alike3 points_at points_at shapes_at make_envelopes
 envelopes_law : Lawful envelopes_at envelopes_text EnvelopesFit
 envelopes_law = alike_law envelopes_at envelopes_parts envelopes_text EnvelopesFit envelopes_alike
     (seen_law _ (λ envelopes. (envelopes.volume.points, (envelopes.panning.points, shapes_of envelopes))) _ _ _
-        envelopes_text EnvelopesFit
+    envelopes_text EnvelopesFit
     (pair_law _ _ _ _ _ _ (times_law (λ _. point_at) point_text PointFits (λ _. point_law) 0 12)
-        (pair_law _ _ _ _ _ _ (times_law (λ _. point_at) point_text PointFits (λ _. point_law) 0 12) shapes_law))
+    (pair_law _ _ _ _ _ _ (times_law (λ _. point_at) point_text PointFits (λ _. point_law) 0 12) shapes_law))
     (λ x f. (record { volume = f.0; panning = f.1.0; shapes = f.1.1 }, refl))
     (λ y g. ((g.volume, (g.panning, g.shapes)), refl, refl)))
 
@@ -148,10 +148,10 @@ pub extra_law : Lawful extra_at extra_text ExtraFits
 unfolding extra_text
 extra_law = alike_law extra_at extra_parts extra_text ExtraFits extra_alike
     (seen_law _ (λ extra. (extra.header_size, (extra.map, (extra.envelopes, (extra.vibrato, extra.fadeout))))) _ _ _ _
-        ExtraFits
+    ExtraFits
     (pair_law _ _ _ _ _ _ u32_law
-        (pair_law _ _ _ _ _ _ (field_law 96)
-            (pair_law _ _ _ _ _ _ envelopes_law (pair_law _ _ _ _ _ _ vibrato_law u16_law))))
+    (pair_law _ _ _ _ _ _ (field_law 96)
+    (pair_law _ _ _ _ _ _ envelopes_law (pair_law _ _ _ _ _ _ vibrato_law u16_law))))
     (λ x f.
-        (record { header_size = f.0; map = f.1.0; envelopes = f.1.1.0; vibrato = f.1.1.1.0; fadeout = f.1.1.1.1 }, refl))
+    (record { header_size = f.0; map = f.1.0; envelopes = f.1.1.0; vibrato = f.1.1.1.0; fadeout = f.1.1.1.1 }, refl))
     (λ y g. ((g.header_size, (g.map, (g.envelopes, (g.vibrato, g.fadeout)))), refl, refl)))

@@ -86,7 +86,7 @@ id_takes file letter bytes e =
     let t = (field_law 17).takes p f.0 bytes f.1 in
     let u = unless_ok 0 (wrong_from 0 17 f.0.0) (slice_index f.0.0 9, f.0.1) letter f.2 in
     subst (Passed file) u.1
-        (passed_step file f.0.0 f.0.1.left f.0.1.at t.parts t.fits.0 (all_are f.0.0 0 17 u.0) t.bytes)
+    (passed_step file f.0.0 f.0.1.left f.0.1.at t.parts t.fits.0 (all_are f.0.0 0 17 u.0) t.bytes)
 
 none_wrong : (letter : ℕ) → IsLetter letter → wrong_from 0 17 (identification_with letter) ≡ None
 unfolding wrong_from
@@ -108,7 +108,7 @@ unless_wrong_is (Some k) x at e = let same : 0 + k ≡ at = cc in ap (λ (i : �
 
 wrong_step : (file : List ℕ) (at : ℕ) (b : Bool) (x : ℕ × Place) → ltb (length file) 17 ≡ b
     → cond b (Err (faults.Short 0 17)) (unless_wrong 0 (wrong_from 0 17 (take 17 file)) x) ≡ Err (faults.NotXm at)
-        → IsFirstWrong file at
+    → IsFirstWrong file at
 wrong_step file at true x b e = absurd cc
 wrong_step file at false x b e =
     let f = first_is (take 17 file) 0 17 at (unless_wrong_is (wrong_from 0 17 (take 17 file)) x at e) in
@@ -127,8 +127,8 @@ cond_bind false d x f = refl
 
 id_is : (file : List ℕ) → identification_at (front_of file)
     ≡ cond (ltb (length file) 17) (Err (faults.Short 0 17))
-        (unless_wrong 0 (wrong_from 0 17 (take 17 file))
-            (slice_index (take 17 file) 9, record { at = 0 + 17; left = drop 17 file }))
+    (unless_wrong 0 (wrong_from 0 17 (take 17 file))
+    (slice_index (take 17 file) 9, record { at = 0 + 17; left = drop 17 file }))
 unfolding identification_at field_at
 id_is file =
     cond_bind (ltb (length file) 17) (faults.Short 0 17) (take 17 file, record { at = 0 + 17; left = drop 17 file }) _
@@ -175,12 +175,16 @@ raw_fits letter x is f = record {
 }
 
 parts_fit : (raw : RawSong) → SongFits raw → PartsFit (parts_of raw)
-parts_fit raw fits =
-    (fits.header,
-    (record { count = fits.patterns_count; each = fits.patterns }, record {
-          count = fits.instruments_count;
-          each = fits.instruments;
-        }))
+parts_fit raw fits = (
+  fits.header,
+  (
+    record { count = fits.patterns_count; each = fits.patterns },
+    record {
+      count = fits.instruments_count;
+      each = fits.instruments;
+    },
+  ),
+)
 
 pub gives_song : (file : List ℕ) (song : Module) → AreBytes file → song_in file ≡ Ok song → Spells file song
 unfolding song_in song_text module_of
@@ -207,15 +211,17 @@ gives_step : (file : List ℕ) (raw : RawSong) (surplus : List ℕ) → SongFits
     → value_of (identification_at (front_of file) >>= song_behind) ≡ Ok (meaning (parts_of raw))
 gives_step file raw surplus fits e =
     ap (λ (x : List ℕ). value_of (identification_at (front_of x) >>= song_behind)) e
-    ∙ rw
-        (id_again raw.letter (parts_text (parts_of raw) ++ surplus) fits.letter, song_law.again 17 (parts_of raw)
-            surplus (parts_fit raw fits)) refl
+    ∙ rw (
+      id_again raw.letter (parts_text (parts_of raw) ++ surplus) fits.letter,
+      song_law.again 17 (parts_of raw)
+          surplus (parts_fit raw fits),
+    ) refl
 
 pub song_gives : (file : List ℕ) (song : Module) → Spells file song → song_in file ≡ Ok song
 unfolding song_in song_text module_of
 song_gives file song s =
     gives_step file s.raw s.surplus s.fits
-        (s.text ∙ append_assoc (identification_with s.raw.letter) (parts_text (parts_of s.raw)) s.surplus)
+    (s.text ∙ append_assoc (identification_with s.raw.letter) (parts_text (parts_of s.raw)) s.surplus)
     ∙ ap (λ (m : Module). Ok m) s.means
 
 -- ---- the identification's fault

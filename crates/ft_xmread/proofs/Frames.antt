@@ -29,18 +29,18 @@ more_pairs bytes i lt =
     let next : 2 * (i + 1) ≡ 2 * i + 1 + 1 = omega arith in
     let same : get_or bytes (2 * i + 1) 0 ≡ get_or bytes (2 * i + 1) 0 + 0 = omega arith in
     rw (next, first, second)
-        (ap (λ (high : ℕ). (get_or bytes (2 * i) 0 + 256 * high) ∷ pairs_of (drop (2 * i + 1 + 1) bytes)) same)
+    (ap (λ (high : ℕ). (get_or bytes (2 * i) 0 + 256 * high) ∷ pairs_of (drop (2 * i + 1 + 1) bytes)) same)
 
 pub next_wide : (bytes : List ℕ) (i before value : ℕ) (front : List ℤ) (total : List ℤ) → 2 * i + 1 < length bytes
     → value ≡ (before + little_number 2 (drop (2 * i) bytes)) % 65536
     → front ++ map (cast_signed w16) (sums_from 65536 before (pairs_of (drop (2 * i) bytes))) ≡ total
     → (front ++ cast_signed w16 value ∷ [])
-        ++ map (cast_signed w16) (sums_from 65536 value (pairs_of (drop (2 * (i + 1)) bytes))) ≡ total
+    ++ map (cast_signed w16) (sums_from 65536 value (pairs_of (drop (2 * (i + 1)) bytes))) ≡ total
 next_wide bytes i before value front total lt e so_far =
     next_sum (cast_signed w16) 65536 (little_number 2 (drop (2 * i) bytes)) before value
-        (pairs_of (drop (2 * (i + 1)) bytes)) front total e
+    (pairs_of (drop (2 * (i + 1)) bytes)) front total e
     (sym (ap (λ (l : List ℕ). front ++ map (cast_signed w16) (sums_from 65536 before l)) (more_pairs bytes i lt))
-        ∙ so_far)
+    ∙ so_far)
 
 -- at most one byte makes no number
 no_pairs : (bytes : List ℕ) → length bytes ≤ 1 → pairs_of bytes ≡ []
@@ -52,5 +52,5 @@ pub last_wide : (bytes : List ℕ) (before : ℕ) (front total : List ℤ) → l
     → front ++ map (cast_signed w16) (sums_from 65536 before (pairs_of bytes)) ≡ total → front ≡ total
 last_wide bytes before front total le so_far =
     sym (append-nil front)
-        ∙ sym (ap (λ (l : List ℕ). front ++ map (cast_signed w16) (sums_from 65536 before l)) (no_pairs bytes le))
-        ∙ so_far
+    ∙ sym (ap (λ (l : List ℕ). front ++ map (cast_signed w16) (sums_from 65536 before l)) (no_pairs bytes le))
+    ∙ so_far

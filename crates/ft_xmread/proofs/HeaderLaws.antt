@@ -83,7 +83,7 @@ sizes_law : Lawful sizes_at sizes_text SizesFit
 sizes_law =
     alike_law sizes_at parts_of_sizes sizes_text SizesFit sizes_alike (seen_law _ sizes_parts _ _ _ sizes_text SizesFit
     (pair_law _ _ _ _ _ _ version_law (pair_law _ _ _ _ _ _
-        (checked_law low_size Count (number_at 4) u32 (IsNumber 4) u32_law)
+    (checked_law low_size Count (number_at 4) u32 (IsNumber 4) u32_law)
     (pair_law _ _ _ _ _ _ (count_law 256) (pair_law _ _ _ _ _ _ u16_law (checked_law bad_channels Count (number_at 2) u16 (IsNumber 2) u16_law)))))
     (λ x f. (
       record {
@@ -121,11 +121,12 @@ settings_law =
     (λ settings. (settings.patterns, (settings.instruments, (settings.flags, (settings.tempo, settings.bpm))))) _ _ _
     settings_text SettingsFit
     (pair_law _ _ _ _ _ _ (count_law 256)
-        (pair_law _ _ _ _ _ _ (count_law 128) (pair_law _ _ _ _ _ _ u16_law (pair_law _ _ _ _ _ _ u16_law u16_law))))
-    (λ x f.
-        (record
-        { patterns = fits_limit 256 x.0 f.0.1; instruments = fits_limit 128 x.1.0 f.1.0.1; flags = f.1.1.0; tempo = f.1.1.1.0; bpm = f.1.1.1.1 },
-        refl))
+    (pair_law _ _ _ _ _ _ (count_law 128) (pair_law _ _ _ _ _ _ u16_law (pair_law _ _ _ _ _ _ u16_law u16_law))))
+    (λ x f. (
+      record
+          { patterns = fits_limit 256 x.0 f.0.1; instruments = fits_limit 128 x.1.0 f.1.0.1; flags = f.1.1.0; tempo = f.1.1.1.0; bpm = f.1.1.1.1 },
+      refl,
+    ))
     (λ y g. (((omega (arith, g.patterns), not_lt 256 y.patterns g.patterns), ((omega (arith, g.instruments), not_lt 128 y.instruments g.instruments), (g.flags, (g.tempo, g.bpm)))), refl, refl)))
 
 -- ---- the whole
@@ -162,7 +163,7 @@ header_law =
     (λ raw. (raw.titles, (raw.sizes, (raw.settings, raw.orders)))) _ _ _ _ HeaderFits
     (pair_law _ _ _ _ _ _ titles_law
     (both_law sizes_at behind_sizes sizes_text (λ _ x. settings_text x.0 ++ x.1) SizesFit
-        (λ sizes x. SettingsFit x.0 × IsField (sizes.size - 20) x.1) sizes_law
+    (λ sizes x. SettingsFit x.0 × IsField (sizes.size - 20) x.1) sizes_law
     (λ sizes _. pair_law _ _ _ _ _ _ settings_law (field_law (sizes.size - 20)))))
     (λ x f. (record { titles = f.0; sizes = f.1.0; settings = f.1.1.0; orders = f.1.1.1 }, refl))
     (λ y g. ((g.titles, (g.sizes, (g.settings, g.orders))), refl, refl)))

@@ -99,7 +99,7 @@ short_law head =
     recast short_of (λ rest. rest.skipped) (short_at head) (λ l. l) (IsField (head.size - 29))
     (λ _. instrument_with head NO_EXTRA []) (rest_text true) (ShortFits head.size) (rest_mean head)
     (seen_spelled (λ (_ : List ℕ). instrument_with head NO_EXTRA []) (field_at (head.size - 29)) (λ l. l)
-        (IsField (head.size - 29)) same
+    (IsField (head.size - 29)) same
     (lawful_spelled (field_at (head.size - 29)) (λ l. l) (IsField (head.size - 29)) (field_law (head.size - 29))))
     (λ x f. (record { extra = refl; skipped = f; samples = refl }, refl, refl))
     (λ y g. (g.skipped, refl, short_means head y.extra y.samples g.extra g.samples))
@@ -122,9 +122,9 @@ parts_at number head = both (in_piece (head.size - 29) extra_at) (λ _. headers_
 parts_law : (number : ℕ) (head : Head) → Spelled (parts_at number head) long_text (PartsFit head) long_mean
 parts_law number head = pair_spelled (in_piece (head.size - 29) extra_at) (headers_and_samples_at number head.samples)
     (λ (x : Extra × List ℕ). extra_text x.0 ++ x.1) samples_text (FitsWithin (head.size - 29) extra_text ExtraFits)
-        (AllFit head.samples RawSampleFits) (λ x. (x.0, x.1)) (map mean_of)
+    (AllFit head.samples RawSampleFits) (λ x. (x.0, x.1)) (map mean_of)
     (within_spelled (head.size - 29) extra_at extra_text ExtraFits same
-        (lawful_spelled extra_at extra_text ExtraFits extra_law))
+    (lawful_spelled extra_at extra_text ExtraFits extra_law))
     (samples_of_law number head.samples)
 
 abbrev long_from : Head → (Extra × List ℕ) × List Sample → Instrument
@@ -138,7 +138,7 @@ long_parts rest = ((rest.extra, rest.skipped), rest.samples)
 
 long_law : (number : ℕ) (head : Head)
     → Spelled (seen (long_from head) (parts_at number head)) (rest_text false) (LongFits head.size head.samples)
-        (rest_mean head)
+    (rest_mean head)
 long_law number head =
     recast long_of long_parts (seen (long_from head) (parts_at number head)) long_text (PartsFit head)
     (λ x. long_from head (long_mean x)) (rest_text false) (LongFits head.size head.samples) (rest_mean head)
@@ -227,6 +227,6 @@ instrument_law number =
     alike_spelled (instrument_spelled_at number) _ _ RawInstrumentFits instrument_of (instrument_alike number) (recast
     raw_of whole_of _ whole_text WholeFits (λ x. (whole_mean x).1) _ RawInstrumentFits instrument_of
     (seen_spelled (λ (x : Head × Instrument). x.1) (both sized_head_at (rest_at number)) whole_text WholeFits whole_mean
-        (whole_law number))
+    (whole_law number))
     (λ x f. (record { head = f.0; rest = f.1 }, refl, refl))
     (λ y g. ((g.head, g.rest), refl, refl)))

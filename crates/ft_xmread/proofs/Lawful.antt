@@ -59,20 +59,20 @@ ok_is x y e = cc
 
 field_front : (at : ℕ) (piece rest : List ℕ)
     → field_at (length piece) (record { at = at; left = piece ++ rest })
-        ≡ Ok (piece, record { at = at + length piece; left = rest })
+    ≡ Ok (piece, record { at = at + length piece; left = rest })
 unfolding field_at
 field_front at piece rest =
     let long : ltb (length (piece ++ rest)) (length piece) ≡ false =
-        le-ltb _ _ (omega (arith, length-append piece rest)) in
+    le-ltb _ _ (omega (arith, length-append piece rest)) in
     rw (long, take-append_seam piece rest, drop-append_seam piece rest) refl
 
 pub field_again : (at : ℕ) (piece rest : List ℕ) (n : ℕ) → length piece ≡ n
     → field_at n (record { at = at; left = piece ++ rest }) ≡ Ok (piece, record { at = at + length piece; left = rest })
 field_again at piece rest n len =
     subst
-        (λ (k : ℕ).
-            field_at k (record { at = at; left = piece ++ rest })
-            ≡ Ok (piece, record { at = at + length piece; left = rest })) len (field_front at piece rest)
+    (λ (k : ℕ).
+    field_at k (record { at = at; left = piece ++ rest })
+    ≡ Ok (piece, record { at = at + length piece; left = rest })) len (field_front at piece rest)
 
 field_takes : (n : ℕ) (p : Place) (x : List ℕ × Place) → AreBytes p.left → field_at n p ≡ Ok x
     → Takes (λ (l : List ℕ). l) (IsField n) p x
@@ -81,7 +81,7 @@ field_takes n p x fits e =
     let g = passed _ _ _ x e in
     let long : n ≤ length p.left = ltb-false _ _ g.0 in
     subst (λ (y : List ℕ × Place). Takes (λ (l : List ℕ). l) (IsField n) p y)
-        (ok_is (take n p.left, record { at = p.at + n; left = drop n p.left }) x g.1)
+    (ok_is (take n p.left, record { at = p.at + n; left = drop n p.left }) x g.1)
     (record {
       fits = (omega (arith, length-take n p.left), AreBytes-take n p.left fits);
       parts = sym (take-append-drop n p.left);
@@ -114,7 +114,7 @@ reads_back n v lt = ap (little_number n) (sym (append-nil (little_bytes n v))) �
 
 number_again : (n at v : ℕ) (rest : List ℕ) → v < 256 ^ n
     → number_at n (record { at = at; left = little_bytes n v ++ rest })
-        ≡ Ok (v, record { at = at + length (little_bytes n v); left = rest })
+    ≡ Ok (v, record { at = at + length (little_bytes n v); left = rest })
 unfolding number_at
 number_again n at v rest lt =
     rw (field_again at (little_bytes n v) rest n (length-bytes_low_first 0 n v), reads_back n v lt) refl
@@ -156,23 +156,23 @@ BothFit F G x = F x.0 × G x.0 x.1
 
 both_again :
     {A B : Type 0} (one : Reading A) (other : A → Reading B) (t : A → List ℕ) (u : A → B → List ℕ) (F : A → Type 0)
-        (G : A → B → Type 0)
+    (G : A → B → Type 0)
     → Lawful one t F → ((a : A) → F a → Lawful (other a) (u a) (G a))
     → (at : ℕ) (a : A) (b : B) (rest : List ℕ) → F a → G a b
     → both one other (record { at = at; left = (t a ++ u a b) ++ rest })
-        ≡ Ok ((a, b), record { at = at + length (t a ++ u a b); left = rest })
+    ≡ Ok ((a, b), record { at = at + length (t a ++ u a b); left = rest })
 both_again {A = A} {B = B} one other t u F G law laws at a b rest f g =
     let n : at + length (t a ++ u a b) ≡ at + length (t a) + length (u a b) =
-        omega (arith, length-append (t a) (u a b)) in
+    omega (arith, length-append (t a) (u a b)) in
     ap (λ (left : List ℕ). both one other (record { at = at; left = left })) (append_assoc (t a) (u a b) rest)
     ∙ rw (law.again at a (u a b ++ rest) f, (laws a f).again (at + length (t a)) b rest g, n) refl
 
 both_takes :
     {A B : Type 0} (one : Reading A) (other : A → Reading B) (t : A → List ℕ) (u : A → B → List ℕ) (F : A → Type 0)
-        (G : A → B → Type 0)
+    (G : A → B → Type 0)
     → Lawful one t F → ((a : A) → F a → Lawful (other a) (u a) (G a))
     → (p : Place) (x : (A × B) × Place) → AreBytes p.left → both one other p ≡ Ok x
-        → Takes (both_text t u) (BothFit F G) p x
+    → Takes (both_text t u) (BothFit F G) p x
 both_takes {A = A} {B = B} one other t u F G law laws p x bytes e =
     let a = bind_ok (one p) _ x e in
     let s = law.takes p a.0 bytes a.1 in
@@ -189,9 +189,9 @@ both_takes {A = A} {B = B} one other t u F G law laws p x bytes e =
 
 pub both_law :
     {A B : Type 0} (one : Reading A) (other : A → Reading B) (t : A → List ℕ) (u : A → B → List ℕ) (F : A → Type 0)
-        (G : A → B → Type 0)
+    (G : A → B → Type 0)
     → Lawful one t F → ((a : A) → F a → Lawful (other a) (u a) (G a))
-        → Lawful (both one other) (both_text t u) (BothFit F G)
+    → Lawful (both one other) (both_text t u) (BothFit F G)
 both_law one other t u F G law laws = record {
   again = λ at x rest fits. both_again one other t u F G law laws at x.0 x.1 rest fits.0 fits.1;
   takes = λ p x bytes e. both_takes one other t u F G law laws p x bytes e;
@@ -232,8 +232,8 @@ IsView {A = A} {B = B} view back t F u G = (y : B) → G y → F (back y) × (vi
 
 seen_again : {A B : Type 0} (view : A → B) (one : Reading A) (t : A → List ℕ) (F : A → Type 0) → Lawful one t F
     → (at : ℕ) (x : A) (y : B) (text rest : List ℕ) → F x → view x ≡ y → t x ≡ text
-        → seen view one (record { at = at; left = text ++ rest })
-            ≡ Ok (y, record { at = at + length text; left = rest })
+    → seen view one (record { at = at; left = text ++ rest })
+    ≡ Ok (y, record { at = at + length text; left = rest })
 seen_again view one t F law at x y text rest f v e = rw (sym e, sym v) (rw (law.again at x rest f) refl)
 
 seen_takes : {A B : Type 0} (view : A → B) (one : Reading A) (t : A → List ℕ) (F : A → Type 0) (u : B → List ℕ)
@@ -249,7 +249,7 @@ seen_takes {A = A} {B = B} view one t F u G law is_seen p y bytes e =
 
 pub seen_law :
     {A B : Type 0} (view : A → B) (back : B → A) (one : Reading A) (t : A → List ℕ) (F : A → Type 0) (u : B → List ℕ)
-        (G : B → Type 0)
+    (G : B → Type 0)
     → Lawful one t F → IsSeen view t F u G → IsView view back t F u G → Lawful (seen view one) u G
 seen_law view back one t F u G law is_seen is_view = record {
   again = λ at y rest fits. let v = is_view y fits in seen_again view one t F law at (back y) y (u y) rest v.0 v.1 v.2;
@@ -271,15 +271,15 @@ refit_law one t F G law there back = record {
 -- two parts of which neither depends on the other
 pub pair_law :
     {A B : Type 0} (one : Reading A) (other : Reading B) (t : A → List ℕ) (u : B → List ℕ) (F : A → Type 0)
-        (G : B → Type 0)
+    (G : B → Type 0)
     → Lawful one t F → Lawful other u G
-        → Lawful (both one (λ _. other)) (both_text t (λ _ b. u b)) (BothFit F (λ _ b. G b))
+    → Lawful (both one (λ _. other)) (both_text t (λ _ b. u b)) (BothFit F (λ _ b. G b))
 pair_law one other t u F G law more = both_law one (λ _. other) t (λ _ b. u b) F (λ _ b. G b) law (λ _ _. more)
 
 -- a value that is kept in another form
 pub kept_law : {A B : Type 0} (view : A → B) (back : B → A) (one : Reading A) (t : A → List ℕ) (F : A → Type 0)
     → Lawful one t F → ((x : A) → F x → back (view x) ≡ x) → ((y : B) → view (back y) ≡ y)
-        → Lawful (seen view one) (λ y. t (back y)) (λ y. F (back y))
+    → Lawful (seen view one) (λ y. t (back y)) (λ y. F (back y))
 kept_law view back one t F law there here = seen_law view back one t F (λ y. t (back y)) (λ y. F (back y)) law
     (λ x f. (subst F (sym (there x f)) f, ap t (sym (there x f))))
     (λ y g. (g, here y, refl))
@@ -301,7 +301,7 @@ text_law {A = A} one t u F law same = record {
       λ at x rest fits.
       subst
       (λ (text : List ℕ).
-          one (record { at = at; left = text ++ rest }) ≡ Ok (x, record { at = at + length text; left = rest }))
+      one (record { at = at; left = text ++ rest }) ≡ Ok (x, record { at = at + length text; left = rest }))
       (same x fits) (law.again at x rest fits);
   takes = λ p x bytes e.
       let t = law.takes p x bytes e in
@@ -353,7 +353,7 @@ within_text t x = t x.0 ++ x.1
 
 within_takes : {A : Type 0} (n : ℕ) (one : Reading A) (t : A → List ℕ) (F : A → Type 0) → Lawful one t F
     → (p : Place) (x : (A × List ℕ) × Place) → AreBytes p.left → in_piece n one p ≡ Ok x
-        → Takes (within_text t) (FitsWithin n t F) p x
+    → Takes (within_text t) (FitsWithin n t F) p x
 unfolding piece_at
 within_takes {A = A} n one t F law p x bytes e =
     let g = bind_ok (piece_at n p) _ x e in
@@ -363,8 +363,8 @@ within_takes {A = A} n one t F law p x bytes e =
     let piece : Place × Place = (inner, f.0.1) in
     let same = ok_is piece g.0 f.2 in
     let a =
-        bind_ok (one inner) _ x
-        (subst (λ (y : Place × Place). (one y.0 >>= λ z. Ok ((z.0, z.1.left), y.1)) ≡ Ok x) (sym same) g.2) in
+    bind_ok (one inner) _ x
+    (subst (λ (y : Place × Place). (one y.0 >>= λ z. Ok ((z.0, z.1.left), y.1)) ≡ Ok x) (sym same) g.2) in
     let r = law.takes inner a.0 s.fits.1 a.1 in
     let made : (A × List ℕ) × Place = ((a.0.0, a.0.1.left), f.0.1) in
     subst (λ (y : (A × List ℕ) × Place). Takes (within_text t) (FitsWithin n t F) p y) (ok_is made x a.2)
@@ -387,21 +387,24 @@ within_law n one t F law = record {
 times_again : {A : Type 0} (one : ℕ → Reading A) (t : A → List ℕ) (F : A → Type 0) → ((k : ℕ) → Lawful (one k) t F)
     → (first at : ℕ) (xs : List A) (rest : List ℕ) → All F xs
     → times one first (length xs) (record { at = at; left = flat_map t xs ++ rest })
-        ≡ Ok (xs, record { at = at + length (flat_map t xs); left = rest })
+    ≡ Ok (xs, record { at = at + length (flat_map t xs); left = rest })
 unfolding times
 times_again one t F law first at [] rest all = rw (no_text at) refl
 times_again one t F law first at (x ∷ xs) rest all =
     let n : at + length (t x ++ flat_map t xs) ≡ at + length (t x) + length (flat_map t xs) =
-        omega (arith, length-append (t x) (flat_map t xs)) in
+    omega (arith, length-append (t x) (flat_map t xs)) in
     ap (λ (left : List ℕ). times one first (suc (length xs)) (record { at = at; left = left }))
-        (append_assoc (t x) (flat_map t xs) rest)
-    ∙ rw
-        ((law first).again at x (flat_map t xs ++ rest) (All-head F x xs all), times_again one t F law (suc first)
-            (at + length (t x)) xs rest (All-tail F x xs all), n) refl
+    (append_assoc (t x) (flat_map t xs) rest)
+    ∙ rw (
+      (law first).again at x (flat_map t xs ++ rest) (All-head F x xs all),
+      times_again one t F law (suc first)
+          (at + length (t x)) xs rest (All-tail F x xs all),
+      n,
+    ) refl
 
 times_takes : {A : Type 0} (one : ℕ → Reading A) (t : A → List ℕ) (F : A → Type 0) → ((k : ℕ) → Lawful (one k) t F)
     → (first n : ℕ) (p : Place) (x : List A × Place) → AreBytes p.left → times one first n p ≡ Ok x
-        → Takes (flat_map t) (AllFit n F) p x
+    → Takes (flat_map t) (AllFit n F) p x
 unfolding times
 times_takes {A = A} one t F law first zero p x bytes e =
     let made : List A × Place = ([], p) in
@@ -429,8 +432,8 @@ times_law {A = A} one t F law first n = record {
       λ at xs rest fits.
       subst
       (λ (k : ℕ).
-          times one first k (record { at = at; left = flat_map t xs ++ rest })
-          ≡ Ok (xs, record { at = at + length (flat_map t xs); left = rest })) fits.count
+      times one first k (record { at = at; left = flat_map t xs ++ rest })
+      ≡ Ok (xs, record { at = at + length (flat_map t xs); left = rest })) fits.count
       (times_again one t F law first at xs rest fits.each);
   takes = λ p x bytes e. times_takes one t F law first n p x bytes e;
 }
@@ -469,7 +472,7 @@ next_step view other whole (Err f) same = refl
 -- a part and a whole, where that sees what comes next
 pub next_alike : {A B C : Type 0} (view : A × B → C) (one : Reading A) (other : A → Reading B) (whole : A → Reading C)
     → ((a : A) → Alike (whole a) (seen (λ b. view (a, b)) (other a)))
-        → Alike (and_then one whole) (seen view (both one other))
+    → Alike (and_then one whole) (seen view (both one other))
 next_alike view one other whole same p = next_step view other whole (one p) same
 
 seen_same_step : {A : Type 0} (r : Result (A × Place) XmFault) → r ≡ (r >>= viewed (λ x. x))

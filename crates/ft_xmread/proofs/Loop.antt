@@ -17,14 +17,14 @@ regroup front x (Err f) = refl
 pub goes_on : {A : Type 0} (one : ℕ → Reading A) (front : List A) (count i : ℕ) (p : Place) (x : A) (after : Place)
     (total : Result (List A × Place) XmFault) → i < count → one i p ≡ Ok (x, after)
     → with_front front (times one i (count - i) p) ≡ total
-        → with_front (front ++ x ∷ []) (times one (i + 1) (count - (i + 1)) after) ≡ total
+    → with_front (front ++ x ∷ []) (times one (i + 1) (count - (i + 1)) after) ≡ total
 unfolding times
 goes_on {A = A} one front count i p x after total lt h so_far =
     let k : count - i ≡ suc (count - (i + 1)) = omega arith in
     let next : suc i ≡ i + 1 = omega arith in
     let step : with_front front (times one i (count - i) p)
-        ≡ with_front (front ++ x ∷ []) (times one (suc i) (count - (i + 1)) after) =
-        rw (k, h) (regroup front x (times one (suc i) (count - (i + 1)) after)) in
+    ≡ with_front (front ++ x ∷ []) (times one (suc i) (count - (i + 1)) after) =
+    rw (k, h) (regroup front x (times one (suc i) (count - (i + 1)) after)) in
     sym (step ∙ ap (λ (j : ℕ). with_front (front ++ x ∷ []) (times one j (count - (i + 1)) after)) next) ∙ so_far
 
 ends : {A : Type 0} (one : ℕ → Reading A) (e : XmFault) (front : List A) (count i : ℕ) (p : Place)
@@ -43,7 +43,7 @@ unfolding times
 is_done {A = A} one front count i p total le so_far =
     let k : count - i ≡ 0 = omega arith in
     let step : with_front front (times one i (count - i) p) ≡ Ok (front, p) =
-        rw k (ap (λ (xs : List A). Ok (xs, p)) (append-nil front)) in
+    rw k (ap (λ (xs : List A). Ok (xs, p)) (append-nil front)) in
     sym so_far ∙ step
 
 pub fails_on : {A : Type 0} (one : ℕ → Reading A) (e : XmFault) (front : List A) (count i : ℕ) (p : Place)

@@ -20,6 +20,6 @@ orders_are table first orders count le e f =
     let whole = e ∙ take_min count table in
     let n : count - length (take count table) ≡ count - length table = omega (arith, length-take count table) in
     f ∙ ap (λ (l : List ℕ). take count l ++ replicate (count - length l) 0) whole
-        ∙ ap (λ (k : ℕ). take count (take count table) ++ replicate k 0) n
+    ∙ ap (λ (k : ℕ). take count (take count table) ++ replicate k 0) n
     ∙ ap (λ (l : List ℕ). l ++ replicate (count - length table) 0) (take-take count count table (omega arith))
     ∙ sym (padded table count 256 (omega (arith, le)))

@@ -52,7 +52,7 @@ head_law number =
     (seen_law _ head_parts _ _ _ pattern_head_text PatternHeadFits
     (pair_law _ _ _ _ _ _ (checked_law low_size Count (number_at 4) u32 (IsNumber 4) u32_law)
     (pair_law _ _ _ _ _ _
-        (checked_law packed_otherwise (λ _ packing. Packing number packing) (number_at 1) byte (IsNumber 1) byte_law)
+    (checked_law packed_otherwise (λ _ packing. Packing number packing) (number_at 1) byte (IsNumber 1) byte_law)
     (pair_law _ _ _ _ _ _ (count_law 256) u16_law)))
     (λ x f. (
       record { size = f.0.0; whole = fits_limit x.0 9 f.0.1; rows = fits_limit 256 x.1.1.0 f.1.1.0.1; packed = f.1.1.1 },
@@ -88,17 +88,17 @@ none_takes : (number count packed : ℕ) (p : Place) (x : Cells × Place) → Ar
 none_takes number count packed p x bytes e =
     let made : Cells × Place = (all_empty count, p) in
     subst (λ (y : Cells × Place). Reached data_text (DataFits true count packed) (cells_of true count) p y)
-        (ok_is made x e)
+    (ok_is made x e)
     (record { raw = ([], []); fits = refl; parts = refl; value = refl; bytes = bytes })
 
 none_again : (number count packed at : ℕ) (raw : Data) (rest : List ℕ) → raw ≡ ([], [])
     → cells_if true number count packed (record { at = at; left = data_text raw ++ rest })
-        ≡ Ok (cells_of true count raw, record { at = at + length (data_text raw); left = rest })
+    ≡ Ok (cells_of true count raw, record { at = at + length (data_text raw); left = rest })
 none_again number count packed at raw rest e = rw (e, no_text at) refl
 
 some_cells_law : (number count packed : ℕ)
     → Spelled (in_piece packed (times (λ _. cell_spelled_at number) 0 count)) data_text (DataFits false count packed)
-        (λ x. (map cell_of x.0, x.1))
+    (λ x. (map cell_of x.0, x.1))
 some_cells_law number count packed =
     within_spelled packed (times (λ _. cell_spelled_at number) 0 count) (flat_map raw_cell_text)
     (AllFit count RawCellFits) (map cell_of)
@@ -120,7 +120,7 @@ cells_if_law false number count packed = record {
 
 cells_law : (number count packed : ℕ)
     → Spelled (cells_at number count packed) data_text (DataFits (nat_eq packed 0) count packed)
-        (cells_of (nat_eq packed 0) count)
+    (cells_of (nat_eq packed 0) count)
 unfolding cells_at
 cells_law number count packed = cells_if_law (nat_eq packed 0) number count packed
 
@@ -146,17 +146,17 @@ behind channels number head =
 
 parts_law : (channels number : ℕ)
     → Spelled (both (pattern_head_at number) (behind channels number)) parts_text (PartsFit channels)
-        (parts_mean channels)
+    (parts_mean channels)
 parts_law channels number = both_spelled (pattern_head_at number) (behind channels number)
     pattern_head_text (λ head x. x.0 ++ data_text x.1)
     PatternHeadFits
-        (λ head x.
-            IsField (head.size - 9) x.0 × DataFits (nat_eq head.packed 0) (rows_of head * channels) head.packed x.1)
+    (λ head x.
+    IsField (head.size - 9) x.0 × DataFits (nat_eq head.packed 0) (rows_of head * channels) head.packed x.1)
     same (λ head x. (x.0, cells_of (nat_eq head.packed 0) (rows_of head * channels) x.1))
     (lawful_spelled (pattern_head_at number) pattern_head_text PatternHeadFits (head_law number))
     (λ head _. pair_spelled (field_at (head.size - 9)) (cells_at number (rows_of head * channels) head.packed)
     (λ l. l) data_text (IsField (head.size - 9)) (DataFits (nat_eq head.packed 0) (rows_of head * channels) head.packed)
-        same (cells_of (nat_eq head.packed 0) (rows_of head * channels))
+    same (cells_of (nat_eq head.packed 0) (rows_of head * channels))
     (lawful_spelled (field_at (head.size - 9)) (λ l. l) (IsField (head.size - 9)) (field_law (head.size - 9)))
     (cells_law number (rows_of head * channels) head.packed))
 
@@ -187,6 +187,6 @@ pattern_law channels number =
     raw_of parts_of _ parts_text (PartsFit channels) (λ x. pattern_from (parts_mean channels x)) _
     (RawPatternFits channels) _
     (seen_spelled pattern_from (both (pattern_head_at number) (behind channels number)) parts_text (PartsFit channels)
-        (parts_mean channels) (parts_law channels number))
+    (parts_mean channels) (parts_law channels number))
     (λ x f. (record { head = f.0; skipped = f.1.0; cells = f.1.1 }, refl, refl))
     (λ y g. ((g.head, (g.skipped, g.cells)), refl, refl)))

@@ -125,9 +125,9 @@ unfolding header_at
 header_quiet =
     next_quiet _ _ titles_quiet
     (λ _.
-        next_quiet _ _ sizes_quiet
-        (λ sizes.
-            next_quiet _ _ settings_quiet (λ _. next_quiet _ _ (field_quiet (sizes.size - 20)) (λ _. give_quiet _))))
+    next_quiet _ _ sizes_quiet
+    (λ sizes.
+    next_quiet _ _ settings_quiet (λ _. next_quiet _ _ (field_quiet (sizes.size - 20)) (λ _. give_quiet _))))
 
 -- ---- patterns
 
@@ -174,15 +174,15 @@ cells_quiet : (number count packed : ℕ) → Quiet (cells_at number count packe
 unfolding cells_at
 cells_quiet number count packed p = cond_quiet (nat_eq packed 0) _ _ (ok_quiet _)
     (piece_quiet packed (times (λ _. cell_spelled_at number) 0 count)
-        (times_quiet (λ _. cell_spelled_at number) (λ _. cell_quiet number) 0 count) p)
+    (times_quiet (λ _. cell_spelled_at number) (λ _. cell_quiet number) 0 count) p)
 
 pattern_quiet : (channels number : ℕ) → Quiet (pattern_at channels number)
 unfolding pattern_at
 pattern_quiet channels number =
     next_quiet _ _ (pattern_head_quiet number)
     (λ head.
-        next_quiet _ _ (field_quiet (head.size - 9))
-        (λ _. next_quiet _ _ (cells_quiet number _ head.packed) (λ _. give_quiet _)))
+    next_quiet _ _ (field_quiet (head.size - 9))
+    (λ _. next_quiet _ _ (cells_quiet number _ head.packed) (λ _. give_quiet _)))
 
 -- ---- samples
 
@@ -236,16 +236,16 @@ unfolding vibrato_at
 vibrato_quiet =
     next_quiet _ _ (number_quiet 1)
     (λ _.
-        next_quiet _ _ (number_quiet 1)
-        (λ _. next_quiet _ _ (number_quiet 1) (λ _. next_quiet _ _ (number_quiet 1) (λ _. give_quiet _))))
+    next_quiet _ _ (number_quiet 1)
+    (λ _. next_quiet _ _ (number_quiet 1) (λ _. next_quiet _ _ (number_quiet 1) (λ _. give_quiet _))))
 
 shapes_quiet : Quiet shapes_at
 unfolding shapes_at
 shapes_quiet =
     next_quiet _ _ pair_quiet
     (λ _.
-        next_quiet _ _ turns_quiet
-        (λ _. next_quiet _ _ turns_quiet (λ _. next_quiet _ _ pair_quiet (λ _. give_quiet _))))
+    next_quiet _ _ turns_quiet
+    (λ _. next_quiet _ _ turns_quiet (λ _. next_quiet _ _ pair_quiet (λ _. give_quiet _))))
 
 points_quiet : Quiet (times (λ _. point_at) 0 12)
 points_quiet = times_quiet (λ _. point_at) (λ _. point_quiet) 0 12
@@ -261,10 +261,10 @@ unfolding extra_at
 extra_quiet =
     next_quiet _ _ (number_quiet 4)
     (λ _.
-        next_quiet _ _ (field_quiet 96)
-        (λ _.
-            next_quiet _ _ envelopes_quiet
-            (λ _. next_quiet _ _ vibrato_quiet (λ _. next_quiet _ _ (number_quiet 2) (λ _. give_quiet _)))))
+    next_quiet _ _ (field_quiet 96)
+    (λ _.
+    next_quiet _ _ envelopes_quiet
+    (λ _. next_quiet _ _ vibrato_quiet (λ _. next_quiet _ _ (number_quiet 2) (λ _. give_quiet _)))))
 
 instrument_quiet : (number : ℕ) → Quiet (instrument_spelled_at number)
 unfolding instrument_spelled_at

@@ -23,9 +23,10 @@ abbrev Fields : Type 0
 Fields = ℕ × (ℕ × (ℕ × (ℕ × (ℕ × (ℕ × (ℕ × (ℕ × (ℕ × List ℕ))))))))
 
 abbrev fields_of : SampleHeader → Fields
-fields_of h =
-    (h.length,
-    (h.loop_start, (h.loop_len, (h.volume, (h.finetune, (h.kind, (h.panning, (h.relative, (h.skipped, h.name)))))))))
+fields_of h = (
+  h.length,
+  (h.loop_start, (h.loop_len, (h.volume, (h.finetune, (h.kind, (h.panning, (h.relative, (h.skipped, h.name)))))))),
+)
 
 abbrev make : Fields → SampleHeader
 make x = record {
@@ -53,9 +54,9 @@ abbrev fields_parts : Reading SampleHeader
 fields_parts =
     seen make
     (both (number_at 4)
-        (λ _.
-            both (number_at 4)
-            (λ _. both (number_at 4) (λ _. both (number_at 1) (λ _. both (number_at 1) (λ _. last_parts))))))
+    (λ _.
+    both (number_at 4)
+    (λ _. both (number_at 4) (λ _. both (number_at 1) (λ _. both (number_at 1) (λ _. last_parts))))))
 
 abbrev made : ℕ → ℕ → ℕ → ℕ → ℕ → ℕ → ℕ → ℕ → ℕ → List ℕ → SampleHeader
 made length loop_start loop_len volume finetune kind panning relative skipped name = record {
@@ -96,25 +97,25 @@ alike6 a b d e = next_alike (λ (x : Last6). make (a, (b, (d, (e, x))))) (number
 
 alike7 : (a b d : ℕ)
     → Alike (last7 a b d)
-        (seen (λ (x : ℕ × Last6). make (a, (b, (d, x))))
-            (both (number_at 1) (λ _. both (number_at 1) (λ _. last_parts))))
+    (seen (λ (x : ℕ × Last6). make (a, (b, (d, x))))
+    (both (number_at 1) (λ _. both (number_at 1) (λ _. last_parts))))
 alike7 a b d =
     next_alike (λ (x : ℕ × Last6). make (a, (b, (d, x)))) (number_at 1) (λ _. both (number_at 1) (λ _. last_parts))
     (last6 a b d) (alike6 a b d)
 
 alike8 : (a b : ℕ)
     → Alike (last8 a b)
-        (seen (λ (x : ℕ × (ℕ × Last6)). make (a, (b, x)))
-            (both (number_at 4) (λ _. both (number_at 1) (λ _. both (number_at 1) (λ _. last_parts)))))
+    (seen (λ (x : ℕ × (ℕ × Last6)). make (a, (b, x)))
+    (both (number_at 4) (λ _. both (number_at 1) (λ _. both (number_at 1) (λ _. last_parts)))))
 alike8 a b =
     next_alike (λ (x : ℕ × (ℕ × Last6)). make (a, (b, x))) (number_at 4)
     (λ _. both (number_at 1) (λ _. both (number_at 1) (λ _. last_parts))) (last7 a b) (alike7 a b)
 
 alike9 : (a : ℕ)
     → Alike (last9 a)
-        (seen (λ (x : ℕ × (ℕ × (ℕ × Last6))). make (a, x))
-            (both (number_at 4)
-                (λ _. both (number_at 4) (λ _. both (number_at 1) (λ _. both (number_at 1) (λ _. last_parts))))))
+    (seen (λ (x : ℕ × (ℕ × (ℕ × Last6))). make (a, x))
+    (both (number_at 4)
+    (λ _. both (number_at 4) (λ _. both (number_at 1) (λ _. both (number_at 1) (λ _. last_parts))))))
 alike9 a =
     next_alike (λ (x : ℕ × (ℕ × (ℕ × Last6))). make (a, x)) (number_at 4)
     (λ _. both (number_at 4) (λ _. both (number_at 1) (λ _. both (number_at 1) (λ _. last_parts)))) (last8 a) (alike8 a)
@@ -124,14 +125,14 @@ unfolding sample_fields_at
 fields_alike =
     next_alike make (number_at 4)
     (λ _.
-        both (number_at 4)
-        (λ _. both (number_at 4) (λ _. both (number_at 1) (λ _. both (number_at 1) (λ _. last_parts))))) last9 alike9
+    both (number_at 4)
+    (λ _. both (number_at 4) (λ _. both (number_at 1) (λ _. both (number_at 1) (λ _. last_parts))))) last9 alike9
 
 parts_fields_law : Lawful fields_parts sample_header_text FieldsFit
 unfolding sample_header_text
 parts_fields_law = kept_law make fields_of _ _ _
     (pair_law _ _ _ _ _ _ u32_law (pair_law _ _ _ _ _ _ u32_law (pair_law _ _ _ _ _ _ u32_law (pair_law _ _ _ _ _ _
-        byte_law (pair_law _ _ _ _ _ _ byte_law
+    byte_law (pair_law _ _ _ _ _ _ byte_law
     (pair_law _ _ _ _ _ _ byte_law (pair_law _ _ _ _ _ _ byte_law (pair_law _ _ _ _ _ _ byte_law (pair_law _ _ _ _ _ _ byte_law (field_law 22))))))))))
     (λ _ _. refl) (λ _. refl)
 
@@ -172,7 +173,7 @@ unfolding sample_header_at
 header_law instrument number =
     refit_law _ sample_header_text (Passes (Passes FieldsFit is_stereo) too_long) SampleHeaderFits
     (checked_law too_long (λ _ header. TooLong instrument number (frame_count header)) _ sample_header_text
-        (Passes FieldsFit is_stereo)
+    (Passes FieldsFit is_stereo)
     (checked_law is_stereo (λ _ _. Stereo instrument number) _ sample_header_text FieldsFit whole_law))
     (λ x f. let a = f.0.0 in record {
       length = a.0;
@@ -214,18 +215,21 @@ pub record DataFits (headers : List SampleHeader) (raws : List RawSample) : Type
 
 samples_again : (at : ℕ) (raws : List RawSample) (rest : List ℕ) → All StepsFit raws
     → samples_at (map header_of raws) (record { at = at; left = flat_map steps_of raws ++ rest })
-        ≡ Ok (map mean_of raws, record { at = at + length (flat_map steps_of raws); left = rest })
+    ≡ Ok (map mean_of raws, record { at = at + length (flat_map steps_of raws); left = rest })
 unfolding samples_at
 samples_again at [] rest all = rw (no_text at) refl
 samples_again at (raw ∷ raws) rest all =
     let fits = All-head StepsFit raw raws all in
     let n : at + length (raw.steps ++ flat_map steps_of raws) ≡ at + length raw.steps + length (flat_map steps_of raws) =
-        omega (arith, length-append raw.steps (flat_map steps_of raws)) in
+    omega (arith, length-append raw.steps (flat_map steps_of raws)) in
     ap (λ (left : List ℕ). samples_at (map header_of (raw ∷ raws)) (record { at = at; left = left }))
-        (append_assoc raw.steps (flat_map steps_of raws) rest)
-    ∙ rw
-        (field_again at raw.steps (flat_map steps_of raws ++ rest) raw.header.length fits.0, samples_again
-            (at + length raw.steps) raws rest (All-tail StepsFit raw raws all), n) refl
+    (append_assoc raw.steps (flat_map steps_of raws) rest)
+    ∙ rw (
+      field_again at raw.steps (flat_map steps_of raws ++ rest) raw.header.length fits.0,
+      samples_again
+          (at + length raw.steps) raws rest (All-tail StepsFit raw raws all),
+      n,
+    ) refl
 
 samples_takes : (headers : List SampleHeader) (p : Place) (x : List Sample × Place) → AreBytes p.left
     → samples_at headers p ≡ Ok x → Reached (flat_map steps_of) (DataFits headers) (map mean_of) p x
@@ -234,12 +238,12 @@ samples_takes [] p x bytes e =
     let made : List Sample × Place = ([], p) in
     subst (λ (y : List Sample × Place). Reached (flat_map steps_of) (DataFits []) (map mean_of) p y) (ok_is made x e)
     (record {
-          raw = [];
-          fits = record { headed = refl; each = All-nil StepsFit };
-          parts = refl;
-          value = refl;
-          bytes = bytes;
-        })
+      raw = [];
+      fits = record { headed = refl; each = All-nil StepsFit };
+      parts = refl;
+      value = refl;
+      bytes = bytes;
+    })
 samples_takes (header ∷ headers) p x bytes e =
     let a = bind_ok (field_at header.length p) _ x e in
     let s = (field_law header.length).takes p a.0 bytes a.1 in
@@ -248,7 +252,7 @@ samples_takes (header ∷ headers) p x bytes e =
     let raw : RawSample = record { header = header; steps = a.0.0 } in
     let made : List Sample × Place = (sample_from header a.0.0 ∷ b.0.0, b.0.1) in
     subst (λ (y : List Sample × Place). Reached (flat_map steps_of) (DataFits (header ∷ headers)) (map mean_of) p y)
-        (ok_is made x b.2)
+    (ok_is made x b.2)
     (record {
       raw = raw ∷ r.raw;
       fits = record {
@@ -269,8 +273,8 @@ samples_law headers = record {
       λ at raws rest fits.
       subst
       (λ (l : List SampleHeader).
-          samples_at l (record { at = at; left = flat_map steps_of raws ++ rest })
-          ≡ Ok (map mean_of raws, record { at = at + length (flat_map steps_of raws); left = rest })) fits.headed
+      samples_at l (record { at = at; left = flat_map steps_of raws ++ rest })
+      ≡ Ok (map mean_of raws, record { at = at + length (flat_map steps_of raws); left = rest })) fits.headed
       (samples_again at raws rest fits.each);
   takes = λ p x bytes e. samples_takes headers p x bytes e;
 }
@@ -293,9 +297,9 @@ parts_law : (number count : ℕ)
     → Spelled (both (times (sample_header_at number) 0 count) samples_at) parts_text (PartsFit count) parts_mean
 parts_law number count = both_spelled (times (sample_header_at number) 0 count) samples_at
     (flat_map sample_header_text) (λ _ raws. flat_map steps_of raws) (AllFit count SampleHeaderFits)
-        (λ headers. DataFits headers) same (λ _. map mean_of)
+    (λ headers. DataFits headers) same (λ _. map mean_of)
     (lawful_spelled (times (sample_header_at number) 0 count) (flat_map sample_header_text)
-        (AllFit count SampleHeaderFits)
+    (AllFit count SampleHeaderFits)
     (times_law (sample_header_at number) sample_header_text SampleHeaderFits (header_law number) 0 count))
     (λ headers _. samples_law headers)
 
@@ -321,9 +325,9 @@ raws_fit : (raws : List RawSample) → All SampleHeaderFits (map header_of raws)
 raws_fit [] heads all = All-nil RawSampleFits
 raws_fit (raw ∷ raws) heads all = All-cons RawSampleFits raw raws
     (record {
-          header = All-head SampleHeaderFits raw.header (map header_of raws) heads;
-          steps = All-head StepsFit raw raws all;
-        })
+      header = All-head SampleHeaderFits raw.header (map header_of raws) heads;
+      steps = All-head StepsFit raw raws all;
+    })
     (raws_fit raws (All-tail SampleHeaderFits raw.header (map header_of raws) heads) (All-tail StepsFit raw raws all))
 
 count_headers : (raws : List RawSample) → length (map header_of raws) ≡ length raws
@@ -345,7 +349,7 @@ seen_parts count x f =
 
 parts_seen : (count : ℕ) (raws : List RawSample) → AllFit count RawSampleFits raws
     → PartsFit count (map header_of raws, raws) × (samples_text raws ≡ parts_text (map header_of raws, raws))
-        × (map mean_of raws ≡ map mean_of raws)
+    × (map mean_of raws ≡ map mean_of raws)
 parts_seen count raws g = (
   (
     record { count = count_headers raws ∙ g.count; each = heads_fit raws g.each },
@@ -357,7 +361,7 @@ parts_seen count raws g = (
 
 all_alike : (number count : ℕ)
     → Alike (headers_and_samples_at number count)
-        (seen (λ (x : List SampleHeader × List Sample). x.1) (both (times (sample_header_at number) 0 count) samples_at))
+    (seen (λ (x : List SampleHeader × List Sample). x.1) (both (times (sample_header_at number) 0 count) samples_at))
 unfolding headers_and_samples_at
 all_alike number count =
     next_alike (λ (x : List SampleHeader × List Sample). x.1) (times (sample_header_at number) 0 count) samples_at
@@ -370,6 +374,6 @@ samples_of_law number count =
     (all_alike number count) (recast (λ (x : Parts). x.1) (λ raws. (map header_of raws, raws)) _ parts_text
     (PartsFit count) (λ x. map mean_of x.1) samples_text (AllFit count RawSampleFits) (map mean_of)
     (seen_spelled (λ (x : List SampleHeader × List Sample). x.1)
-        (both (times (sample_header_at number) 0 count) samples_at) parts_text (PartsFit count) parts_mean
-        (parts_law number count))
+    (both (times (sample_header_at number) 0 count) samples_at) parts_text (PartsFit count) parts_mean
+    (parts_law number count))
     (seen_parts count) (parts_seen count))

@@ -29,26 +29,26 @@ no_header =
 pub samples_go_on : (headers : List SampleHeader) (front : List Sample) (i : ℕ) (p : Place) (steps : List ℕ)
     (after : Place) (total : Result (List Sample × Place) XmFault) → i < length headers
     → field_at (get_or headers i no_header).length p ≡ Ok (steps, after)
-        → with_front front (samples_at (drop i headers) p) ≡ total
+    → with_front front (samples_at (drop i headers) p) ≡ total
     → with_front (front ++ sample_from (get_or headers i no_header) steps ∷ [])
-        (samples_at (drop (i + 1) headers) after) ≡ total
+    (samples_at (drop (i + 1) headers) after) ≡ total
 unfolding samples_at
 samples_go_on headers front i p steps after total lt h so_far =
     let step : with_front front (samples_at (drop i headers) p)
-        ≡ with_front (front ++ sample_from (get_or headers i no_header) steps ∷ [])
-            (samples_at (drop (i + 1) headers) after) =
+    ≡ with_front (front ++ sample_from (get_or headers i no_header) steps ∷ [])
+    (samples_at (drop (i + 1) headers) after) =
     rw (drop_more headers i no_header lt, h)
-        (regroup front (sample_from (get_or headers i no_header) steps) (samples_at (drop (i + 1) headers) after)) in
+    (regroup front (sample_from (get_or headers i no_header) steps) (samples_at (drop (i + 1) headers) after)) in
     sym step ∙ so_far
 
 samples_end : (headers : List SampleHeader) (e : XmFault) (front : List Sample) (i : ℕ) (p : Place)
     (total : Result (List Sample × Place) XmFault) → i < length headers
     → with_front front (samples_at (drop i headers) p) ≡ total → field_at (get_or headers i no_header).length p ≡ Err e
-        → total ≡ Err e
+    → total ≡ Err e
 unfolding samples_at
 samples_end headers e front i p total lt so_far h =
     let step : with_front front (samples_at (drop i headers) p) ≡ Err e =
-        rw (drop_more headers i no_header lt, h) refl in
+    rw (drop_more headers i no_header lt, h) refl in
     sym so_far ∙ step
 
 -- a fault of a part that is the fault of the whole
@@ -67,10 +67,10 @@ fails_alike one total (faults.TooLong instrument sample frames) same h = same h
 pub samples_fail_on : (headers : List SampleHeader) (e : XmFault) (front : List Sample) (i : ℕ) (p : Place)
     (total : Result (List Sample × Place) XmFault) → i < length headers
     → Fails e (field_at (get_or headers i no_header).length p)
-        → with_front front (samples_at (drop i headers) p) ≡ total → Fails e total
+    → with_front front (samples_at (drop i headers) p) ≡ total → Fails e total
 samples_fail_on headers e front i p total lt h so_far =
     fails_alike (field_at (get_or headers i no_header).length p) total e
-        (samples_end headers e front i p total lt so_far) h
+    (samples_end headers e front i p total lt so_far) h
 
 pub samples_done : (headers : List SampleHeader) (front : List Sample) (i : ℕ) (p : Place)
     (total : Result (List Sample × Place) XmFault) → length headers ≤ i
@@ -78,5 +78,5 @@ pub samples_done : (headers : List SampleHeader) (front : List Sample) (i : ℕ)
 unfolding samples_at
 samples_done headers front i p total le so_far =
     let step : with_front front (samples_at (drop i headers) p) ≡ Ok (front, p) =
-        rw (drop_all i headers le) (ap (λ (xs : List Sample). Ok (xs, p)) (append-nil front)) in
+    rw (drop_all i headers le) (ap (λ (xs : List Sample). Ok (xs, p)) (append-nil front)) in
     sym so_far ∙ step

@@ -31,7 +31,7 @@ abbrev pub PartsFit : Parts → Type 0
 PartsFit x =
     HeaderFits x.0
     × (AllFit x.0.settings.patterns (RawPatternFits x.0.sizes.channels) x.1.0
-        × AllFit x.0.settings.instruments RawInstrumentFits x.1.1)
+    × AllFit x.0.settings.instruments RawInstrumentFits x.1.1)
 
 abbrev parts_mean : Parts → RawHeader × (List Pattern × List Instrument)
 parts_mean x = (x.0, (map (pattern_of x.0.sizes.channels) x.1.0, map instrument_of x.1.1))
@@ -44,20 +44,20 @@ behind raw =
 behind_law : (raw : RawHeader) → Spelled (behind raw)
     (λ (x : List RawPattern × List RawInstrument). flat_map pattern_text x.0 ++ flat_map instrument_text x.1)
     (λ x.
-        AllFit raw.settings.patterns (RawPatternFits raw.sizes.channels) x.0
-        × AllFit raw.settings.instruments RawInstrumentFits x.1)
+    AllFit raw.settings.patterns (RawPatternFits raw.sizes.channels) x.0
+    × AllFit raw.settings.instruments RawInstrumentFits x.1)
     (λ x. (map (pattern_of raw.sizes.channels) x.0, map instrument_of x.1))
 behind_law raw =
     pair_spelled (times (pattern_at raw.sizes.channels) 0 raw.settings.patterns)
     (times (λ k. instrument_spelled_at (k + 1)) 0 raw.settings.instruments)
     (flat_map pattern_text) (flat_map instrument_text)
-        (AllFit raw.settings.patterns (RawPatternFits raw.sizes.channels))
-        (AllFit raw.settings.instruments RawInstrumentFits)
+    (AllFit raw.settings.patterns (RawPatternFits raw.sizes.channels))
+    (AllFit raw.settings.instruments RawInstrumentFits)
     (map (pattern_of raw.sizes.channels)) (map instrument_of)
     (times_spelled (pattern_at raw.sizes.channels) pattern_text (RawPatternFits raw.sizes.channels)
-        (pattern_of raw.sizes.channels) (pattern_law raw.sizes.channels) 0 raw.settings.patterns)
+    (pattern_of raw.sizes.channels) (pattern_law raw.sizes.channels) 0 raw.settings.patterns)
     (times_spelled (λ k. instrument_spelled_at (k + 1)) instrument_text RawInstrumentFits instrument_of
-        (λ k. instrument_law (k + 1)) 0 raw.settings.instruments)
+    (λ k. instrument_law (k + 1)) 0 raw.settings.instruments)
 
 abbrev parts_at : Reading (RawHeader × (List Pattern × List Instrument))
 parts_at = both header_at behind
@@ -65,9 +65,9 @@ parts_at = both header_at behind
 parts_law : Spelled parts_at parts_text PartsFit parts_mean
 parts_law = both_spelled header_at behind header_text (λ _ x. flat_map pattern_text x.0 ++ flat_map instrument_text x.1)
     HeaderFits
-        (λ raw x.
-            AllFit raw.settings.patterns (RawPatternFits raw.sizes.channels) x.0
-            × AllFit raw.settings.instruments RawInstrumentFits x.1)
+    (λ raw x.
+    AllFit raw.settings.patterns (RawPatternFits raw.sizes.channels) x.0
+    × AllFit raw.settings.instruments RawInstrumentFits x.1)
     same (λ raw x. (map (pattern_of raw.sizes.channels) x.0, map instrument_of x.1))
     (lawful_spelled header_at header_text HeaderFits header_law) (λ raw _. behind_law raw)
 
@@ -82,11 +82,11 @@ song_alike : Alike song_at (seen song_of_parts parts_at)
 unfolding song_at
 song_alike = next_alike song_of_parts header_at behind
     (λ raw.
-        do2 (times (pattern_at raw.sizes.channels) 0 raw.settings.patterns)
-        (times (λ k. instrument_spelled_at (k + 1)) 0 raw.settings.instruments) (made_song raw))
+    do2 (times (pattern_at raw.sizes.channels) 0 raw.settings.patterns)
+    (times (λ k. instrument_spelled_at (k + 1)) 0 raw.settings.instruments) (made_song raw))
     (λ raw.
-        alike2 (times (pattern_at raw.sizes.channels) 0 raw.settings.patterns)
-        (times (λ k. instrument_spelled_at (k + 1)) 0 raw.settings.instruments) (made_song raw))
+    alike2 (times (pattern_at raw.sizes.channels) 0 raw.settings.patterns)
+    (times (λ k. instrument_spelled_at (k + 1)) 0 raw.settings.instruments) (made_song raw))
 
 pub song_law : Spelled song_at parts_text PartsFit meaning
 song_law =

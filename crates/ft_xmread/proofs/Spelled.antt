@@ -20,11 +20,11 @@ pub record Reached {R A : Type 0} (text : R → List ℕ) (Fits : R → Type 0) 
   pub bytes : AreBytes x.1.left
 
 pub record Spelled {R A : Type 0} (one : Reading A) (text : R → List ℕ) (Fits : R → Type 0) (means : R → A) : Type 0
-    where
-  pub again : (at : ℕ) (raw : R) (rest : List ℕ) → Fits raw
-      → one (record { at = at; left = text raw ++ rest })
-          ≡ Ok (means raw, record { at = at + length (text raw); left = rest })
-  pub takes : (p : Place) (x : A × Place) → AreBytes p.left → one p ≡ Ok x → Reached text Fits means p x
+  where
+    pub again : (at : ℕ) (raw : R) (rest : List ℕ) → Fits raw
+        → one (record { at = at; left = text raw ++ rest })
+        ≡ Ok (means raw, record { at = at + length (text raw); left = rest })
+    pub takes : (p : Place) (x : A × Place) → AreBytes p.left → one p ≡ Ok x → Reached text Fits means p x
 
 abbrev pub same : {A : Type 0} → A → A
 same x = x
@@ -69,12 +69,12 @@ IsRecast {R = R} to t F m u G n = (r : R) → F r → G (to r) × (t r ≡ u (to
 
 recast_again : {R A : Type 0} (one : Reading A) (t : R → List ℕ) (F : R → Type 0) (m : R → A) → Spelled one t F m
     → (at : ℕ) (r : R) (text rest : List ℕ) (x : A) → F r → text ≡ t r → x ≡ m r
-        → one (record { at = at; left = text ++ rest }) ≡ Ok (x, record { at = at + length text; left = rest })
+    → one (record { at = at; left = text ++ rest }) ≡ Ok (x, record { at = at + length text; left = rest })
 recast_again one t F m law at r text rest x fits e f = rw (e, f) (law.again at r rest fits)
 
 pub recast :
     {R S A : Type 0} (to : R → S) (back : S → R) (one : Reading A) (t : R → List ℕ) (F : R → Type 0) (m : R → A)
-        (u : S → List ℕ) (G : S → Type 0) (n : S → A)
+    (u : S → List ℕ) (G : S → Type 0) (n : S → A)
     → Spelled one t F m → IsRecast to t F m u G n → IsRecast back u G n t F m → Spelled one u G n
 recast {R = R} {S = S} to back one t F m u G n law there here = record {
   again = λ at s rest fits. let h = here s fits in recast_again one t F m law at (back s) (u s) rest (n s) h.0 h.1 h.2;
@@ -88,20 +88,20 @@ recast {R = R} {S = S} to back one t F m u G n law there here = record {
 
 both_again :
     {R S A B : Type 0} (one : Reading A) (other : A → Reading B) (t : R → List ℕ) (u : R → S → List ℕ) (F : R → Type 0)
-        (G : R → S → Type 0) (m : R → A) (n : R → S → B)
+    (G : R → S → Type 0) (m : R → A) (n : R → S → B)
     → Spelled one t F m → ((r : R) → F r → Spelled (other (m r)) (u r) (G r) (n r))
     → (at : ℕ) (r : R) (s : S) (rest : List ℕ) → F r → G r s
     → both one other (record { at = at; left = (t r ++ u r s) ++ rest })
-        ≡ Ok ((m r, n r s), record { at = at + length (t r ++ u r s); left = rest })
+    ≡ Ok ((m r, n r s), record { at = at + length (t r ++ u r s); left = rest })
 both_again one other t u F G m n law laws at r s rest f g =
     let k : at + length (t r ++ u r s) ≡ at + length (t r) + length (u r s) =
-        omega (arith, length-append (t r) (u r s)) in
+    omega (arith, length-append (t r) (u r s)) in
     ap (λ (left : List ℕ). both one other (record { at = at; left = left })) (append_assoc (t r) (u r s) rest)
     ∙ rw (law.again at r (u r s ++ rest) f, (laws r f).again (at + length (t r)) s rest g, k) refl
 
 both_takes :
     {R S A B : Type 0} (one : Reading A) (other : A → Reading B) (t : R → List ℕ) (u : R → S → List ℕ) (F : R → Type 0)
-        (G : R → S → Type 0) (m : R → A) (n : R → S → B)
+    (G : R → S → Type 0) (m : R → A) (n : R → S → B)
     → Spelled one t F m → ((r : R) → F r → Spelled (other (m r)) (u r) (G r) (n r))
     → (p : Place) (x : (A × B) × Place) → AreBytes p.left → both one other p ≡ Ok x
     → Reached (λ (y : R × S). t y.0 ++ u y.0 y.1) (λ y. F y.0 × G y.0 y.1) (λ y. (m y.0, n y.0 y.1)) p x
@@ -113,11 +113,11 @@ both_takes {R = R} {S = S} {A = A} {B = B} one other t u F G m n law laws p x by
     let r = (laws s.raw s.fits).takes a.0.1 b.0 s.bytes moved in
     let made : (A × B) × Place = ((a.0.0, b.0.0), b.0.1) in
     let left : (m s.raw, n s.raw r.raw) ≡ (a.0.0, b.0.0) =
-        ap (λ (v : A). (v, n s.raw r.raw)) s.value ∙ ap (λ (v : B). (a.0.0, v)) r.value in
+    ap (λ (v : A). (v, n s.raw r.raw)) s.value ∙ ap (λ (v : B). (a.0.0, v)) r.value in
     subst
-        (λ (y : (A × B) × Place).
-            Reached (λ (z : R × S). t z.0 ++ u z.0 z.1) (λ z. F z.0 × G z.0 z.1) (λ z. (m z.0, n z.0 z.1)) p y)
-        (ok_is made x b.2)
+    (λ (y : (A × B) × Place).
+    Reached (λ (z : R × S). t z.0 ++ u z.0 z.1) (λ z. F z.0 × G z.0 z.1) (λ z. (m z.0, n z.0 z.1)) p y)
+    (ok_is made x b.2)
     (record {
       raw = (s.raw, r.raw);
       fits = (s.fits, r.fits);
@@ -129,7 +129,7 @@ both_takes {R = R} {S = S} {A = A} {B = B} one other t u F G m n law laws p x by
 
 pub both_spelled :
     {R S A B : Type 0} (one : Reading A) (other : A → Reading B) (t : R → List ℕ) (u : R → S → List ℕ) (F : R → Type 0)
-        (G : R → S → Type 0) (m : R → A) (n : R → S → B)
+    (G : R → S → Type 0) (m : R → A) (n : R → S → B)
     → Spelled one t F m → ((r : R) → F r → Spelled (other (m r)) (u r) (G r) (n r))
     → Spelled (both one other) (λ (y : R × S). t y.0 ++ u y.0 y.1) (λ y. F y.0 × G y.0 y.1) (λ y. (m y.0, n y.0 y.1))
 both_spelled one other t u F G m n law laws = record {
@@ -140,7 +140,7 @@ both_spelled one other t u F G m n law laws = record {
 -- two parts of which neither depends on the other
 pub pair_spelled :
     {R S A B : Type 0} (one : Reading A) (other : Reading B) (t : R → List ℕ) (u : S → List ℕ) (F : R → Type 0)
-        (G : S → Type 0) (m : R → A) (n : S → B)
+    (G : S → Type 0) (m : R → A) (n : S → B)
     → Spelled one t F m → Spelled other u G n
     → Spelled (both one (λ _. other)) (λ (y : R × S). t y.0 ++ u y.1) (λ y. F y.0 × G y.1) (λ y. (m y.0, n y.1))
 pair_spelled one other t u F G m n law more =
@@ -161,13 +161,13 @@ within_takes {R = R} {A = A} k one t F m law p x bytes e =
     let piece : Place × Place = (inner, f.0.1) in
     let same_piece = ok_is piece g.0 f.2 in
     let a =
-        bind_ok (one inner) _ x
-        (subst (λ (y : Place × Place). (one y.0 >>= λ z. Ok ((z.0, z.1.left), y.1)) ≡ Ok x) (sym same_piece) g.2) in
+    bind_ok (one inner) _ x
+    (subst (λ (y : Place × Place). (one y.0 >>= λ z. Ok ((z.0, z.1.left), y.1)) ≡ Ok x) (sym same_piece) g.2) in
     let r = law.takes inner a.0 s.fits.1 a.1 in
     let made : (A × List ℕ) × Place = ((a.0.0, a.0.1.left), f.0.1) in
     subst
-        (λ (y : (A × List ℕ) × Place).
-            Reached (λ (z : R × List ℕ). t z.0 ++ z.1) (FitsWithin k t F) (λ z. (m z.0, z.1)) p y) (ok_is made x a.2)
+    (λ (y : (A × List ℕ) × Place).
+    Reached (λ (z : R × List ℕ). t z.0 ++ z.1) (FitsWithin k t F) (λ z. (m z.0, z.1)) p y) (ok_is made x a.2)
     (record {
       raw = (r.raw, a.0.1.left);
       fits = record { fits = r.fits; whole = sym (ap length r.parts) ∙ s.fits.0; bytes = r.bytes };
@@ -204,22 +204,25 @@ times_again : {R A : Type 0} (one : ℕ → Reading A) (t : R → List ℕ) (F :
     → ((k : ℕ) → Spelled (one k) t F m)
     → (first at : ℕ) (rs : List R) (rest : List ℕ) → All F rs
     → times one first (length rs) (record { at = at; left = flat_map t rs ++ rest })
-        ≡ Ok (map m rs, record { at = at + length (flat_map t rs); left = rest })
+    ≡ Ok (map m rs, record { at = at + length (flat_map t rs); left = rest })
 unfolding times
 times_again one t F m law first at [] rest all = rw (no_text at) refl
 times_again one t F m law first at (r ∷ rs) rest all =
     let n : at + length (t r ++ flat_map t rs) ≡ at + length (t r) + length (flat_map t rs) =
-        omega (arith, length-append (t r) (flat_map t rs)) in
+    omega (arith, length-append (t r) (flat_map t rs)) in
     ap (λ (left : List ℕ). times one first (suc (length rs)) (record { at = at; left = left }))
-        (append_assoc (t r) (flat_map t rs) rest)
-    ∙ rw
-        ((law first).again at r (flat_map t rs ++ rest) (All-head F r rs all), times_again one t F m law (suc first)
-            (at + length (t r)) rs rest (All-tail F r rs all), n) refl
+    (append_assoc (t r) (flat_map t rs) rest)
+    ∙ rw (
+      (law first).again at r (flat_map t rs ++ rest) (All-head F r rs all),
+      times_again one t F m law (suc first)
+          (at + length (t r)) rs rest (All-tail F r rs all),
+      n,
+    ) refl
 
 times_takes : {R A : Type 0} (one : ℕ → Reading A) (t : R → List ℕ) (F : R → Type 0) (m : R → A)
     → ((k : ℕ) → Spelled (one k) t F m)
     → (first n : ℕ) (p : Place) (x : List A × Place) → AreBytes p.left → times one first n p ≡ Ok x
-        → Reached (flat_map t) (AllFit n F) (map m) p x
+    → Reached (flat_map t) (AllFit n F) (map m) p x
 unfolding times
 times_takes {A = A} one t F m law first zero p x bytes e =
     let made : List A × Place = ([], p) in
@@ -250,8 +253,8 @@ times_spelled {A = A} one t F m law first n = record {
       λ at rs rest fits.
       subst
       (λ (k : ℕ).
-          times one first k (record { at = at; left = flat_map t rs ++ rest })
-          ≡ Ok (map m rs, record { at = at + length (flat_map t rs); left = rest })) fits.count
+      times one first k (record { at = at; left = flat_map t rs ++ rest })
+      ≡ Ok (map m rs, record { at = at + length (flat_map t rs); left = rest })) fits.count
       (times_again one t F m law first at rs rest fits.each);
   takes = λ p x bytes e. times_takes one t F m law first n p x bytes e;
 }

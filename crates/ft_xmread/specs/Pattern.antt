@@ -58,7 +58,7 @@ cell_spelled_at pattern = seen cell_of (inside pattern raw_cell_at)
 abbrev pub packing_at : ℕ → Reading ℕ
 packing_at number =
     checked (λ packing. not (packing == PACKING)) (λ _ packing. Packing number packing)
-        (number_at 1)
+    (number_at 1)
 
 unfoldable pub pattern_head_at : ℕ → Reading PatternHead
 pattern_head_at number = do

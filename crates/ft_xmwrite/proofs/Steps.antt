@@ -11,13 +11,13 @@ pub next_narrow : (frames : List ℤ) (i before value : ℕ) (front whole : List
     → value ≡ cast_unsigned w8 (get_or frames i (pos 0))
     → front ++ steps_from 256 before (map (cast_unsigned w8) (drop i frames)) ≡ whole
     → (front ++ (value + (256 - before)) % 256 ∷ [])
-        ++ steps_from 256 value (map (cast_unsigned w8) (drop (i + 1) frames)) ≡ whole
+    ++ steps_from 256 value (map (cast_unsigned w8) (drop (i + 1) frames)) ≡ whole
 next_narrow frames i before value front whole lt e so_far =
     append_assoc front ((value + (256 - before)) % 256 ∷ [])
-        (steps_from 256 value (map (cast_unsigned w8) (drop (i + 1) frames)))
+    (steps_from 256 value (map (cast_unsigned w8) (drop (i + 1) frames)))
     ∙ ap (λ (v : ℕ). front ++ steps_from 256 before (v ∷ map (cast_unsigned w8) (drop (i + 1) frames))) e
     ∙ sym
-        (ap (λ (l : List ℤ). front ++ steps_from 256 before (map (cast_unsigned w8) l)) (drop_more frames i (pos 0) lt))
+    (ap (λ (l : List ℤ). front ++ steps_from 256 before (map (cast_unsigned w8) l)) (drop_more frames i (pos 0) lt))
     ∙ so_far
 
 -- the two bytes of the step to this value, and then the others
@@ -26,7 +26,7 @@ pub next_wide : (frames : List ℤ) (i before value low high : ℕ) (front whole
     → low ≡ (value + (65536 - before)) % 65536 % 256 → high ≡ (value + (65536 - before)) % 65536 / 256 % 256
     → front ++ flat_map u16 (steps_from 65536 before (map (cast_unsigned w16) (drop i frames))) ≡ whole
     → ((front ++ low ∷ []) ++ high ∷ [])
-        ++ flat_map u16 (steps_from 65536 value (map (cast_unsigned w16) (drop (i + 1) frames))) ≡ whole
+    ++ flat_map u16 (steps_from 65536 value (map (cast_unsigned w16) (drop (i + 1) frames))) ≡ whole
 next_wide frames i before value low high front whole lt e e0 e1 so_far =
     let rest = flat_map u16 (steps_from 65536 value (map (cast_unsigned w16) (drop (i + 1) frames))) in
     append_assoc (front ++ low ∷ []) (high ∷ []) rest
@@ -34,9 +34,9 @@ next_wide frames i before value low high front whole lt e e0 e1 so_far =
     ∙ ap (λ (b : ℕ). front ++ b ∷ (high ∷ rest)) e0
     ∙ ap (λ (b : ℕ). front ++ (value + (65536 - before)) % 65536 % 256 ∷ (b ∷ rest)) e1
     ∙ ap
-        (λ (v : ℕ). front ++ flat_map u16 (steps_from 65536 before (v ∷ map (cast_unsigned w16) (drop (i + 1) frames))))
-        e
+    (λ (v : ℕ). front ++ flat_map u16 (steps_from 65536 before (v ∷ map (cast_unsigned w16) (drop (i + 1) frames))))
+    e
     ∙ sym
-        (ap (λ (l : List ℤ). front ++ flat_map u16 (steps_from 65536 before (map (cast_unsigned w16) l)))
-            (drop_more frames i (pos 0) lt))
+    (ap (λ (l : List ℤ). front ++ flat_map u16 (steps_from 65536 before (map (cast_unsigned w16) l)))
+    (drop_more frames i (pos 0) lt))
     ∙ so_far

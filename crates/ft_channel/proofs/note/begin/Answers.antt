@@ -38,12 +38,12 @@ returns-then-not-can_begin-clause-started g c = λ w is.
     let fits : FitsSigned w16 c.played_note-note.result = search rules in
     let frame : c.start_frame-frame.result ≡ start_frame c.args.cell c.args.channel.now =
     c.start_frame-frame.ensures.value
-        ∙ ap (λ (effect : Effect). start_frame_by effect c.args.channel.now) c.requires.effect in
+    ∙ ap (λ (effect : Effect). start_frame_by effect c.args.channel.now) c.requires.effect in
     let starts = begin_not before (g.V.SongView.shown c.stop.new.self w) c.args.c c.args.cell c.args.channel.now head
     (sym (c.start.ensures.value w a.0) ∙ c.in-Some.is)
     (ap (λ (f : ℕ). is_played (played_note c.args.cell.note head.relative) && nat_lt f head.frames) (sym frame)
     ∙ ap (λ (note : ℤ). is_played note && nat_lt c.start_frame-frame.result head.frames)
-        (as_played c.args.cell.note head.relative c.played_note-note.result small fits c.played_note-note.ensures)
+    (as_played c.args.cell.note head.relative c.played_note-note.result small fits c.played_note-note.ensures)
     ∙ sym c.can_begin.ensures.value ∙ c.if-not-can_begin.true)
     (a.1 ∙ ap (keeping c.args.c None) b.1 ∙ keeping_twice c.args.c _ None before) in
     (b.0, rw c.end_voice-then-not-can_begin.ensures.value starts)
@@ -51,11 +51,11 @@ returns-then-not-can_begin-clause-started g c = λ w is.
 pub returns-then-not-can_begin-clause-keeps : goal.returns-then-not-can_begin-clause-keeps
 returns-then-not-can_begin-clause-keeps g c =
     let stopped =
-        set_twice (g.V.SongView.holds c.args.view.now) (g.V.SongView.holds c.start.new.self)
-        (g.V.SongView.holds c.stop.new.self) c.args.c _ false c.start.ensures.holds c.stop.ensures.holds in
+    set_twice (g.V.SongView.holds c.args.view.now) (g.V.SongView.holds c.start.new.self)
+    (g.V.SongView.holds c.stop.new.self) c.args.c _ false c.start.ensures.holds c.stop.ensures.holds in
     let k =
-        set_once (g.V.SongView.holds c.args.view.now) (g.V.SongView.holds c.stop.new.self) c.args.c false false
-        c.requires.channel stopped in
+    set_once (g.V.SongView.holds c.args.view.now) (g.V.SongView.holds c.stop.new.self) c.args.c false false
+    c.requires.channel stopped in
     let ended = c.end_voice-then-not-can_begin.ensures.voice in
     rw ended (record {
       kept = λ s. tt;
@@ -70,8 +70,8 @@ returns-then-not-can_begin-clause-range g c = c.end_voice-then-not-can_begin.ens
 pub returns-then-not-can_begin-clause-words : goal.returns-then-not-can_begin-clause-words
 returns-then-not-can_begin-clause-words g c =
     let stopped =
-        set_twice (g.V.SongView.words c.args.view.now) (g.V.SongView.words c.start.new.self)
-        (g.V.SongView.words c.stop.new.self) c.args.c _ [] c.start.ensures.words c.stop.ensures.words in
+    set_twice (g.V.SongView.words c.args.view.now) (g.V.SongView.words c.start.new.self)
+    (g.V.SongView.words c.stop.new.self) c.args.c _ [] c.start.ensures.words c.stop.ensures.words in
     let within = g.met.V.SongView.worded c.args.view.now in
     (set_once (g.V.SongView.words c.args.view.now) (g.V.SongView.words c.stop.new.self) c.args.c [] [] (omega arith) stopped).1
 
@@ -84,48 +84,48 @@ returns-clause-started g c = λ w is.
     let small : FitsSigned w8 head.relative = search rules in
     let fits : FitsSigned w16 c.played_note-note.result = search rules in
     let played =
-        as_played c.args.cell.note head.relative c.played_note-note.result small fits c.played_note-note.ensures in
+    as_played c.args.cell.note head.relative c.played_note-note.result small fits c.played_note-note.ensures in
     let linear : c.head-linear.result.linear ≡ before.song.linear =
     ap (λ (said : SongHead). said.linear) (c.head-linear.ensures.value w is)
-        ∙ ap (λ (shown : Shown). shown.song.linear) b.1 in
+    ∙ ap (λ (shown : Shown). shown.song.linear) b.1 in
     let frame : c.start_frame-frame.result ≡ start_frame c.args.cell c.args.channel.now =
     c.start_frame-frame.ensures.value
-        ∙ ap (λ (effect : Effect). start_frame_by effect c.args.channel.now) c.requires.effect in
+    ∙ ap (λ (effect : Effect). start_frame_by effect c.args.channel.now) c.requires.effect in
     let begins : can_begin c.args.cell (start_frame c.args.cell c.args.channel.now) head ≡ true =
     ap (λ (f : ℕ). is_played (played_note c.args.cell.note head.relative) && nat_lt f head.frames) (sym frame)
     ∙ ap (λ (note : ℤ). is_played note && nat_lt c.start_frame-frame.result head.frames) played
-        ∙ sym c.can_begin.ensures.value ∙ c.if-not-can_begin.false in
+    ∙ sym c.can_begin.ensures.value ∙ c.if-not-can_begin.false in
     let few : FitsSigned w8 c.start_finetune.result = search rules in
     let tune : to_z w8 (of_z w8 c.start_finetune.result) ≡ start_finetune (effect_in c.args.cell) head =
     to_z-of_z w8 c.start_finetune.result few ∙ c.start_finetune.ensures
-        ∙ ap (λ (effect : Effect). start_finetune effect head) c.requires.effect in
+    ∙ ap (λ (effect : Effect). start_finetune effect head) c.requires.effect in
     let pitch : c.tuned_period-period.result ≡ note_period before.song c.args.cell head =
     c.tuned_period-period.ensures.value
     ∙ ap
-        (λ (it : Bool).
-            period_of it (nat_abs (to_z w16 (of_z w16 c.played_note-note.result)))
-            (to_z w8 (of_z w8 c.start_finetune.result))) linear
+    (λ (it : Bool).
+    period_of it (nat_abs (to_z w16 (of_z w16 c.played_note-note.result)))
+    (to_z w8 (of_z w8 c.start_finetune.result))) linear
     ∙ ap (λ (note : ℤ). period_of before.song.linear (nat_abs note) (to_z w8 (of_z w8 c.start_finetune.result)))
-        (sym played)
+    (sym played)
     ∙ ap
-        (λ (finetune : ℤ). period_of before.song.linear (nat_abs (played_note c.args.cell.note head.relative)) finetune)
-        tune in
+    (λ (finetune : ℤ). period_of before.song.linear (nat_abs (played_note c.args.cell.note head.relative)) finetune)
+    tune in
     let starts = begin_so before (g.V.SongView.shown c.head-linear.new.self w) c.args.c c.args.cell c.args.channel.now
-        c.begin_voice.new.channel head c.tuned_period-period.result
+    c.begin_voice.new.channel head c.tuned_period-period.result
     (sym (c.start.ensures.value w a.0) ∙ c.in-Some.is) begins (a.1 ∙ b.1) pitch
     (c.begin_voice.ensures.value
-        ∙ ap (λ (f : ℕ). with_voice (new_voice c.args.c f head) c.tuned_period-period.result c.args.channel.now) frame)
-        in
+    ∙ ap (λ (f : ℕ). with_voice (new_voice c.args.c f head) c.tuned_period-period.result c.args.channel.now) frame)
+    in
     (b.0, starts)
 
 pub returns-clause-keeps : goal.returns-clause-keeps
 returns-clause-keeps g c =
     let started =
-        c.head-linear.ensures.holds ∙ c.start.ensures.holds
-        ∙ ap (λ (k : Option SampleHead). set (g.V.SongView.holds c.args.view.now) c.args.c (is_some k)) c.in-Some.is in
+    c.head-linear.ensures.holds ∙ c.start.ensures.holds
+    ∙ ap (λ (k : Option SampleHead). set (g.V.SongView.holds c.args.view.now) c.args.c (is_some k)) c.in-Some.is in
     let k =
-        set_once (g.V.SongView.holds c.args.view.now) (g.V.SongView.holds c.head-linear.new.self) c.args.c true false
-        c.requires.channel started in
+    set_once (g.V.SongView.holds c.args.view.now) (g.V.SongView.holds c.head-linear.new.self) c.args.c true false
+    c.requires.channel started in
     rw c.begin_voice.ensures.voice (record {
       kept = λ s. c.head-linear.ensures.keeps c.args.c c.in-Some.head c.in-Some.ensures.began;
       exact = λ e. k.0;

@@ -15,9 +15,9 @@ returns-clause-turned g c = λ w is.
       start_turned (g.V.SongView.shown c.args.view.now w) (g.V.SongView.shown c.strike.new.view w)
           (g.V.SongView.shown c.effect_start.new.view w)
           c.args.c c.args.cell c.of-effect.result c.args.ch.now c.remember_offset.new.ch c.strike.new.ch
-              c.effect_start.new.channel c.args.ctl.now c.effect_start.new.control
+          c.effect_start.new.channel c.args.ctl.now c.effect_start.new.control
           c.of-effect.ensures.value (sym c.is_delayed.ensures ∙ c.if-is_delayed.false) c.remember_offset.ensures.value
-              b.1 a.1 (c.effect_start.ensures.value w is),
+          b.1 a.1 (c.effect_start.ensures.value w is),
     )
 
 pub returns-clause-range : goal.returns-clause-range
@@ -26,8 +26,8 @@ returns-clause-range g c = c.effect_start.ensures.stays.range c.args.c c.strike.
 pub returns-clause-shown : goal.returns-clause-shown
 returns-clause-shown g c =
     turns_shown g.V.SongView.shows g.V.SongView.shown
-        (λ (version : ℕ) (song : Module) (d : ℕ). row_start_of version song d c.args.cell) c.args.c c.args.view.now
-        c.effect_start.new.view c.args.ch.now c.effect_start.new.channel c.args.ctl.now c.effect_start.new.control
+    (λ (version : ℕ) (song : Module) (d : ℕ). row_start_of version song d c.args.cell) c.args.c c.args.view.now
+    c.effect_start.new.view c.args.ch.now c.effect_start.new.channel c.args.ctl.now c.effect_start.new.control
     (returns-clause-turned g c)
 
 pub returns-then-is_delayed-clause-turned : goal.returns-then-is_delayed-clause-turned
@@ -40,8 +40,8 @@ returns-then-is_delayed-clause-turned g c = λ w is. (
 pub returns-then-is_delayed-clause-shown : goal.returns-then-is_delayed-clause-shown
 returns-then-is_delayed-clause-shown g c =
     turns_shown g.V.SongView.shows g.V.SongView.shown
-        (λ (version : ℕ) (song : Module) (d : ℕ). row_start_of version song d c.args.cell) c.args.c c.args.view.now
-        c.args.view.now c.args.ch.now c.args.ch.now c.args.ctl.now c.args.ctl.now
+    (λ (version : ℕ) (song : Module) (d : ℕ). row_start_of version song d c.args.cell) c.args.c c.args.view.now
+    c.args.view.now c.args.ch.now c.args.ch.now c.args.ctl.now c.args.ctl.now
     (returns-then-is_delayed-clause-turned g c)
 
 pub returns-then-is_empty-clause-turned : goal.returns-then-is_empty-clause-turned
@@ -55,6 +55,6 @@ returns-then-is_empty-clause-turned g c = λ w is.
 pub returns-then-is_empty-clause-shown : goal.returns-then-is_empty-clause-shown
 returns-then-is_empty-clause-shown g c =
     turns_shown g.V.SongView.shows g.V.SongView.shown
-        (λ (version : ℕ) (song : Module) (d : ℕ). row_start_of version song d c.args.cell) c.args.c c.args.view.now
-        c.args.view.now c.args.ch.now c.args.ch.now c.args.ctl.now c.args.ctl.now
+    (λ (version : ℕ) (song : Module) (d : ℕ). row_start_of version song d c.args.cell) c.args.c c.args.view.now
+    c.args.view.now c.args.ch.now c.args.ch.now c.args.ctl.now c.args.ctl.now
     (returns-then-is_empty-clause-turned g c)

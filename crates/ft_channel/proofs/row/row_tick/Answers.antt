@@ -16,12 +16,12 @@ returns-clause-turned g c = λ w is.
     let b = c.strike_late.ensures.changed w a.0 in
     let slid : c.volume_tick.new.channel ≡ volume_tick_of (volume_effect_of c.args.ch.now.cell.volume) c.args.ch.now =
     c.volume_tick.ensures.value
-        ∙ ap (λ (effect : VolumeEffect). volume_tick_of effect c.args.ch.now) c.of.ensures.value in (
+    ∙ ap (λ (effect : VolumeEffect). volume_tick_of effect c.args.ch.now) c.of.ensures.value in (
       b.0,
       tick_turned (g.V.SongView.shown c.args.view.now w) (g.V.SongView.shown c.strike_late.new.view w)
           (g.V.SongView.shown c.effect_tick.new.view w)
           c.args.c c.args.u c.of-effect.result c.args.ch.now c.volume_tick.new.channel c.strike_late.new.ch
-              c.effect_tick.new.channel c.args.ctl.now c.effect_tick.new.control
+          c.effect_tick.new.channel c.args.ctl.now c.effect_tick.new.control
           c.of-effect.ensures.value slid b.1 a.1 (c.effect_tick.ensures.value w is),
     )
 
@@ -31,8 +31,8 @@ returns-clause-range g c = c.effect_tick.ensures.stays.range c.args.c c.strike_l
 pub returns-clause-shown : goal.returns-clause-shown
 returns-clause-shown g c =
     turns_shown g.V.SongView.shows g.V.SongView.shown
-        (λ (version : ℕ) (song : Module) (d : ℕ). row_tick_of version song d c.args.u) c.args.c c.args.view.now
-        c.effect_tick.new.view c.args.ch.now c.effect_tick.new.channel c.args.ctl.now c.effect_tick.new.control
+    (λ (version : ℕ) (song : Module) (d : ℕ). row_tick_of version song d c.args.u) c.args.c c.args.view.now
+    c.effect_tick.new.view c.args.ch.now c.effect_tick.new.channel c.args.ctl.now c.effect_tick.new.control
     (returns-clause-turned g c)
 
 pub returns-then-is_still-clause-turned : goal.returns-then-is_still-clause-turned
@@ -46,6 +46,6 @@ returns-then-is_still-clause-turned g c = λ w is.
 pub returns-then-is_still-clause-shown : goal.returns-then-is_still-clause-shown
 returns-then-is_still-clause-shown g c =
     turns_shown g.V.SongView.shows g.V.SongView.shown
-        (λ (version : ℕ) (song : Module) (d : ℕ). row_tick_of version song d c.args.u) c.args.c c.args.view.now
-        c.args.view.now c.args.ch.now c.args.ch.now c.args.ctl.now c.args.ctl.now
+    (λ (version : ℕ) (song : Module) (d : ℕ). row_tick_of version song d c.args.u) c.args.c c.args.view.now
+    c.args.view.now c.args.ch.now c.args.ch.now c.args.ctl.now c.args.ctl.now
     (returns-then-is_still-clause-turned g c)

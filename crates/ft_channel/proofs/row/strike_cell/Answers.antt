@@ -6,4 +6,4 @@ start_note-began-requires-clause-range g c = c.take_instrument.ensures.stays.ran
 pub returns-clause-range : goal.returns-clause-range
 returns-clause-range g c =
     c.volume_start.ensures.stays.range c.args.c
-        (c.after_note.ensures.stays.range c.args.c c.start_note-began.ensures.range)
+    (c.after_note.ensures.stays.range c.args.c c.start_note-began.ensures.range)

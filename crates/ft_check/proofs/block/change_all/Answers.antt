@@ -9,5 +9,5 @@ pub loop-cell-preserved : goal.loop-cell-preserved
 loop-cell-preserved c =
     let l = c.loop-cell in
     rw c.changed.ensures (map_over_more (block_changed c.args.how) c.args.cells.now l.cells l.cell-index
-        (get_or l.cells l.cell-index empty_cell)
+    (get_or l.cells l.cell-index empty_cell)
     (omega arith) l.invariant (get_or_default l.cells l.cell-index empty_cell _ (omega arith)))

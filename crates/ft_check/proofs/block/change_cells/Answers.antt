@@ -8,7 +8,7 @@ use Rattle.ft_check.proofs.block.change_cells.Goals as goal
 pub loop-i-init : goal.loop-i-init
 loop-i-init c =
     no_rows c.args.channels c.args.block.r c.args.block.c c.args.block.w
-        (λ row channel cell. block_changed c.args.how cell) c.args.cells.now
+    (λ row channel cell. block_changed c.args.how cell) c.args.cells.now
 
 pub loop-i-preserved : goal.loop-i-preserved
 loop-i-preserved c =
@@ -19,7 +19,7 @@ loop-i-preserved c =
     let size : at + c.from-in-loop-i-2.result - at ≡ block.w = omega arith in
     let same : length l.cells ≡ length c.args.cells.now =
     ap length l.invariant
-        ∙ length_each (blocked c.args.channels block.r block.c l.i block.w change) 0 c.args.cells.now in
+    ∙ length_each (blocked c.args.channels block.r block.c l.i block.w change) 0 c.args.cells.now in
     let place : at ≡ (block.r + l.i) * c.args.channels + block.c =
     ap (λ n. (n + l.i) * c.args.channels + c.from-in-loop-i.result) c.from.ensures
     ∙ ap (λ n. (block.r + l.i) * c.args.channels + n) c.from-in-loop-i.ensures in
@@ -29,7 +29,7 @@ loop-i-preserved c =
     let new = c.change_all.ensures ∙ ap (λ n. map (block_changed c.args.how) (mid_of at n l.cells)) size in
     ap (λ n. put_mid at n l.cells c.change_all.new.cells) size
     ∙ row_more c.args.channels block.r block.c l.i block.w change c.args.cells.now l.cells c.change_all.new.cells at
-        (record {
+    (record {
       wide = c.requires.wide;
       long = long;
       before = l.invariant;

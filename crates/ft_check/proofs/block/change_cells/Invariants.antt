@@ -9,4 +9,4 @@ use Rattle.ft_check.proofs.block.change_cells.Given as goal
 abbrev pub invariant-loop-i : goal.invariant-loop-i
 invariant-loop-i l = l.cells ≡ each_from (λ place cell.
     if in_block l.block.r l.block.c l.i l.block.w (place / l.channels) (place % l.channels)
-        then block_changed l.how cell else cell) 0 l.fn.cells
+    then block_changed l.how cell else cell) 0 l.fn.cells

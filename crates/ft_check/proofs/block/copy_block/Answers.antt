@@ -16,7 +16,7 @@ paste_block-requires-clause-whole c =
     let rows : c.as_slice.result.now ≡ take (block.h * song.channels) (drop (c.args.r * song.channels) f.0.cells) =
     c.as_slice.ensures.value ∙ c.in_ok-source.ensures
     ∙ ap (λ (it : Option Pattern). take (block.h * song.channels) (drop (c.args.r * song.channels) (cells_in it))) f.1
-        in
+    in
     omega (
       arith,
       ap length rows,
@@ -33,12 +33,12 @@ returns-clause-ok c =
     let rows : c.as_slice.result.now ≡ take (block.h * song.channels) (drop (c.args.r * song.channels) f.0.cells) =
     c.as_slice.ensures.value ∙ c.in_ok-source.ensures
     ∙ ap (λ (it : Option Pattern). take (block.h * song.channels) (drop (c.args.r * song.channels) (cells_in it))) f.1
-        in
+    in
     let there : c.args.r + block.h ≤ f.0.rows =
-        subst (λ (it : Option Pattern). c.args.r + block.h ≤ rows_in it) f.1 c.requires.from.1 in
+    subst (λ (it : Option Pattern). c.args.r + block.h ≤ rows_in it) f.1 c.requires.from.1 in
     c.paste_block.ensures
     ∙ block_same song c.args.q block.r block.c block.h block.w
-        (from_rows song.channels c.as_slice.result.now c.args.c block.r block.c)
+    (from_rows song.channels c.as_slice.result.now c.args.c block.r block.c)
     (λ row channel cell. copied song c.args.p c.args.r c.args.c block.r block.c row channel)
     (copied_same song c.args.p c.args.r c.args.c block.r block.c block.h block.w f.0 c.as_slice.result.now f.1 there
-        c.requires.from.2 rows)
+    c.requires.from.2 rows)

@@ -9,7 +9,7 @@ pub loop-i-init : goal.loop-i-init
 loop-i-init c =
     let block = c.args.block in
     no_rows c.args.channels block.r block.c block.w
-        (from_rows c.args.channels c.args.source.now c.args.c block.r block.c) c.args.cells.now
+    (from_rows c.args.channels c.args.source.now c.args.c block.r block.c) c.args.cells.now
 
 pub loop-i-preserved : goal.loop-i-preserved
 loop-i-preserved c =
@@ -21,7 +21,7 @@ loop-i-preserved c =
     let size : at + c.from-w.result - at ≡ block.w = omega arith in
     let same : length l.cells ≡ length c.args.cells.now =
     ap length l.invariant
-        ∙ length_each (blocked c.args.channels block.r block.c l.i block.w change) 0 c.args.cells.now in
+    ∙ length_each (blocked c.args.channels block.r block.c l.i block.w change) 0 c.args.cells.now in
     let place : at ≡ (block.r + l.i) * c.args.channels + block.c =
     ap (λ n. (n + l.i) * c.args.channels + c.from-in-loop-i.result) c.from.ensures
     ∙ ap (λ n. (block.r + l.i) * c.args.channels + n) c.from-in-loop-i.ensures in
@@ -35,13 +35,13 @@ loop-i-preserved c =
     let new : c.write_part.new.cells ≡ take block.w (drop start source) =
     c.write_part.ensures
     ∙ ap (λ n. take (length (mid_of at n l.cells)) (drop (l.i * c.args.channels + c.from-in-loop-i-2.result) source))
-        size
+    size
     ∙ ap (λ n. take n (drop (l.i * c.args.channels + c.from-in-loop-i-2.result) source))
-        (mid_length at block.w l.cells fits)
+    (mid_length at block.w l.cells fits)
     ∙ ap (λ n. take block.w (drop (l.i * c.args.channels + n) source)) c.from-in-loop-i-2.ensures in
     ap (λ n. put_mid at n l.cells c.write_part.new.cells) size
     ∙ row_more c.args.channels block.r block.c l.i block.w change c.args.cells.now l.cells c.write_part.new.cells at
-        (record {
+    (record {
       wide = c.requires.wide;
       long = long;
       before = l.invariant;

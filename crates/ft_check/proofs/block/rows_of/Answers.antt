@@ -8,7 +8,7 @@ part_of-requires c =
     let song = c.args.m.now in
     let pattern = c.in-Some.pattern.now in
     let found : slice_get song.patterns c.args.p ≡ Some pattern =
-        ap (slice_get song.patterns) (sym c.from-3.ensures) ∙ sym c.in-Some.ensures in
+    ap (slice_get song.patterns) (sym c.from-3.ensures) ∙ sym c.in-Some.ensures in
     let long = block_long song c.args.p c.args.r c.args.h pattern c.requires.valid found c.requires.there in
     let front : c.from.result * c.from-channels.result ≡ c.args.r * song.channels =
     ap (λ n. n * c.from-channels.result) c.from.ensures ∙ ap (λ n. c.args.r * n) c.from-channels.ensures in

@@ -13,10 +13,10 @@ pub returns-in-Ok-clause-ok : goal.returns-in-Ok-clause-ok
 unfolding apply
 returns-in-Ok-clause-ok c =
     ap (λ cause. unless_fault cause (edited c.args.m.now c.args.e.now)) (sym c.fault_of.ensures ∙ c.in-None.is)
-        ∙ ap Ok (sym c.in-Ok.ensures.ok)
+    ∙ ap Ok (sym c.in-Ok.ensures.ok)
 
 pub returns-in-Ok-clause-valid : goal.returns-in-Ok-clause-valid
 returns-in-Ok-clause-valid c =
     subst IsValid (sym c.in-Ok.ensures.ok)
     (c.valid_stays_valid.ensures.edited c.args.m.now c.args.e.now c.requires.valid c.holds_fields.ensures
-        (sym c.fault_of.ensures ∙ c.in-None.is))
+    (sym c.fault_of.ensures ∙ c.in-None.is))

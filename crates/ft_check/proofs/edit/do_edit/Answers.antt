@@ -17,9 +17,9 @@ returns-in-Transpose-clause-ok c =
     let fits : FitsSigned w8 x.d = search rules in
     c.change_block-in-Transpose.ensures
     ∙ ap
-        (λ d.
-            with_pattern x.p (with_block c.args.m.now.channels x.r x.c x.h x.w (λ row channel cell. moved d cell))
-            c.args.m.now) (to_z-of_z w8 x.d fits)
+    (λ d.
+    with_pattern x.p (with_block c.args.m.now.channels x.r x.c x.h x.w (λ row channel cell. moved d cell))
+    c.args.m.now) (to_z-of_z w8 x.d fits)
     ∙ ap (edited c.args.m.now) (sym x.is)
 
 pub returns-in-Smpname-clause-ok : goal.returns-in-Smpname-clause-ok
@@ -32,9 +32,9 @@ returns-in-Smp-clause-ok c =
     let rel : FitsSigned w8 x.rel = search rules in
     c.change_sample-in-Smp.ensures
     ∙ ap (λ z. with_sample x.i x.s (sample_changed (samples.Head x.vol z (to_z w8 (of_z w8 x.rel)) x.pan)) c.args.m.now)
-        (to_z-of_z w8 x.fine fine)
+    (to_z-of_z w8 x.fine fine)
     ∙ ap (λ z. with_sample x.i x.s (sample_changed (samples.Head x.vol x.fine z x.pan)) c.args.m.now)
-        (to_z-of_z w8 x.rel rel)
+    (to_z-of_z w8 x.rel rel)
     ∙ ap (edited c.args.m.now) (sym x.is)
 
 pub returns-in-Loop-clause-ok : goal.returns-in-Loop-clause-ok
@@ -52,7 +52,7 @@ returns-in-Scale-clause-ok c =
     let fits : FitsSigned w16 x.n = search rules in
     c.change_sample-in-Scale.ensures
     ∙ ap (λ z. with_sample x.i x.s (sample_changed (samples.Scale x.from x.to z x.d)) c.args.m.now)
-        (to_z-of_z w16 x.n fits)
+    (to_z-of_z w16 x.n fits)
     ∙ ap (edited c.args.m.now) (sym x.is)
 
 pub returns-in-Bits-clause-ok : goal.returns-in-Bits-clause-ok

@@ -6,15 +6,15 @@ use Rattle.ft_check.proofs.instrument.change_instrument.Goals as goal
 pub returns-in-Some-clause-ok : goal.returns-in-Some-clause-ok
 returns-in-Some-clause-ok c = ok_so c.change.result c.change.ensures.ok (λ new.
     instrument_now c.args.m.now c.args.i c.saturating_sub.result (instrument_changed c.args.how)
-        c.in-Some.instrument.now c.change.new.instrument
+    c.in-Some.instrument.now c.change.new.instrument
     (omega arith) (sym c.in-Some.ensures.value) new)
 
 pub returns-in-Some-clause-err : goal.returns-in-Some-clause-err
 returns-in-Some-clause-err c = err_so c.change.result c.change.ensures.err (λ same.
     instrument_back c.args.m.now c.saturating_sub.result c.in-Some.instrument.now c.change.new.instrument
-        (sym c.in-Some.ensures.value) same)
+    (sym c.in-Some.ensures.value) same)
 
 pub returns-in-None-clause-ok : goal.returns-in-None-clause-ok
 returns-in-None-clause-ok c =
     instrument_none c.args.m.now c.args.i c.saturating_sub.result (instrument_changed c.args.how) (omega arith)
-        (sym c.in-None.ensures.value)
+    (sym c.in-None.ensures.value)

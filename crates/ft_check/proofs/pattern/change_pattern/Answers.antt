@@ -6,15 +6,15 @@ use Rattle.ft_check.proofs.pattern.change_pattern.Goals as goal
 pub returns-in-Some-clause-ok : goal.returns-in-Some-clause-ok
 returns-in-Some-clause-ok c = ok_so c.change.result c.change.ensures.ok (λ new.
     pattern_now c.args.m.now c.args.p c.from.result (pattern_changed c.args.m.now.channels c.args.how)
-        c.in-Some.pattern.now c.change.new.pattern
+    c.in-Some.pattern.now c.change.new.pattern
     (omega arith) (sym c.in-Some.ensures.value) new)
 
 pub returns-in-Some-clause-err : goal.returns-in-Some-clause-err
 returns-in-Some-clause-err c = err_so c.change.result c.change.ensures.err (λ same.
     pattern_back c.args.m.now c.from.result c.in-Some.pattern.now c.change.new.pattern (sym c.in-Some.ensures.value)
-        same)
+    same)
 
 pub returns-in-None-clause-ok : goal.returns-in-None-clause-ok
 returns-in-None-clause-ok c =
     pattern_none c.args.m.now c.args.p c.from.result (pattern_changed c.args.m.now.channels c.args.how) (omega arith)
-        (sym c.in-None.ensures.value)
+    (sym c.in-None.ensures.value)

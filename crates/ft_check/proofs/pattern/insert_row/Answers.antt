@@ -11,4 +11,4 @@ returns c =
     let size : length (empty_rows c.args.channels 1) ≡ c.args.channels =
     omega (arith, length-replicate {A = Cell} (1 * c.args.channels) empty_cell) in
     row_in c.args.at c.args.channels c.args.cells.now (empty_rows c.args.channels 1) c.row_first.new.cells size
-        c.requires c.row_first.ensures
+    c.requires c.row_first.ensures

@@ -7,16 +7,16 @@ use Rattle.ft_check.proofs.sample.paste_into.Goals as goal
 pub returns-in-Some-clause-ok : goal.returns-in-Some-clause-ok
 returns-in-Some-clause-ok c = ok_so c.paste_in.result c.paste_in.ensures.ok (λ new.
     instrument_now c.args.m.now c.args.i (c.from.result - 1)
-        (sample_in_changed c.args.s (with_new_frames c.args.at c.args.new.now))
+    (sample_in_changed c.args.s (with_new_frames c.args.at c.args.new.now))
     c.in-Some.instrument.now c.paste_in.new.instrument (omega arith) (sym c.in-Some.ensures.value) new)
 
 pub returns-in-Some-clause-err : goal.returns-in-Some-clause-err
 returns-in-Some-clause-err c = err_so c.paste_in.result c.paste_in.ensures.err (λ same.
     instrument_back c.args.m.now (c.from.result - 1) c.in-Some.instrument.now c.paste_in.new.instrument
-        (sym c.in-Some.ensures.value) same)
+    (sym c.in-Some.ensures.value) same)
 
 pub returns-in-None-clause-ok : goal.returns-in-None-clause-ok
 returns-in-None-clause-ok c =
     instrument_none c.args.m.now c.args.i (c.from.result - 1)
-        (sample_in_changed c.args.s (with_new_frames c.args.at c.args.new.now)) (omega arith)
+    (sample_in_changed c.args.s (with_new_frames c.args.at c.args.new.now)) (omega arith)
     (sym c.in-None.ensures.value)

@@ -17,7 +17,7 @@ next_sum : (side : Option Owned → Voice → ℤ) (kept : List (Option Owned)) 
 next_sum side kept shown voices i old new lt same now so_far =
     let voice : Voice = get_or voices i no_voice in
     let here : new ≡ (old +ℤ side (get_or kept voice.channel None) voice) =
-        now ∙ ap (λ (l : List (Option Owned)). old +ℤ side (get_or l voice.channel None) voice) same in
+    now ∙ ap (λ (l : List (Option Owned)). old +ℤ side (get_or l voice.channel None) voice) same in
     ap (λ (z : ℤ). z +ℤ voices_sum side kept (drop (i + 1) voices)) here
     ∙ sum_on old (side (get_or kept voice.channel None) voice) _ _ _ (next_voice side kept voices i no_voice lt) so_far
 
@@ -57,11 +57,11 @@ loop-voice-preserved g c =
       cost =
           let left = sum_by-drop_more (block_cost (length c.args.left.now)) voices i no_voice c.loop-voice-test.true in
           let more =
-              subst
-              (λ (n : ℕ).
-                  g.V.SongView.work c.add_voice.new.view
-                  ≤ g.V.SongView.work c.loop-voice.view + block_cost n (get_or voices i no_voice)) many
-              c.add_voice.ensures.cost in
+          subst
+          (λ (n : ℕ).
+          g.V.SongView.work c.add_voice.new.view
+          ≤ g.V.SongView.work c.loop-voice.view + block_cost n (get_or voices i no_voice)) many
+          c.add_voice.ensures.cost in
           let so_far = c.loop-voice.invariant.cost in
           omega arith;
       same = g.met.V.SongView.same_through _ _ _ c.loop-voice.invariant.same c.add_voice.ensures.same;

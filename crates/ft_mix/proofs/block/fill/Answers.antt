@@ -18,31 +18,31 @@ loop-block-preserved g c =
     let whole = c.block_len-many.ensures.whole in
     let lent : length (take many c.loop-block.left) ≡ many = length-take-le many c.loop-block.left (search rules) in
     let cost =
-        subst
-        (λ (n : ℕ).
-            g.V.SongView.work c.fill_block.new.view
-            ≤ g.V.SongView.work c.loop-block.view + sum_by (block_cost n) c.args.voices.now) lent
-        c.fill_block.ensures.cost in
+    subst
+    (λ (n : ℕ).
+    g.V.SongView.work c.fill_block.new.view
+    ≤ g.V.SongView.work c.loop-block.view + sum_by (block_cost n) c.args.voices.now) lent
+    c.fill_block.ensures.cost in
     record {
       frames = λ w is.
           let a = c.fill_block.ensures.frames w is in
           let b = c.loop-block.invariant.frames w a.0 in
           let kept = (g.V.SongView.shown c.args.view.now w).kept in
           let new : (k : ℕ) → k < many
-              → IsFrame (voices_sum (left_of (256 * block + k)) kept c.args.voices.now)
-                  (voices_sum (right_of (256 * block + k)) kept c.args.voices.now) (256 * block + k)
-                  c.fill_block.new.out =
+          → IsFrame (voices_sum (left_of (256 * block + k)) kept c.args.voices.now)
+          (voices_sum (right_of (256 * block + k)) kept c.args.voices.now) (256 * block + k)
+          c.fill_block.new.out =
           λ k lt.
-              subst
-              (λ (s : Shown).
-                  IsFrame (voices_sum (left_of (256 * block + k)) s.kept c.args.voices.now)
-                  (voices_sum (right_of (256 * block + k)) s.kept c.args.voices.now) (256 * block + k)
-                  c.fill_block.new.out) b.1 (a.2 k (subst (λ (n : ℕ). k < n) (sym lent) lt)) in (
+          subst
+          (λ (s : Shown).
+          IsFrame (voices_sum (left_of (256 * block + k)) s.kept c.args.voices.now)
+          (voices_sum (right_of (256 * block + k)) s.kept c.args.voices.now) (256 * block + k)
+          c.fill_block.new.out) b.1 (a.2 k (subst (λ (n : ℕ). k < n) (sym lent) lt)) in (
             b.0,
             a.1 ∙ b.1,
             λ k lt below. more_frames kept c.args.voices.now (256 * block) many c.loop-block.out c.fill_block.new.out
                 (λ n less. b.2 n less (omega arith)) c.fill_block.ensures.before new k
-                    (in_block (256 * block) many (length c.args.out.now / 2) k whole (omega arith) below),
+                (in_block (256 * block) many (length c.args.out.now / 2) k whole (omega arith) below),
           );
       many = c.fill_block.ensures.many ∙ c.loop-block.invariant.many;
       lines = c.fill_block.ensures.lines ∙ c.loop-block.invariant.lines;
@@ -51,35 +51,35 @@ loop-block-preserved g c =
       rising = omega arith;
       work = λ n most rest le.
           let same : n ≡ 256 * block + many =
-              block_end (256 * block) many (length c.args.out.now / 2) n few within whole (omega arith)
-              (λ lt. rest (omega arith)) le in
+          block_end (256 * block) many (length c.args.out.now / 2) n few within whole (omega arith)
+          (λ lt. rest (omega arith)) le in
           let before =
-              c.loop-block.invariant.work (256 * block) (omega arith) (λ lt. absurd (omega arith)) (omega arith) in
+          c.loop-block.invariant.work (256 * block) (omega arith) (λ lt. absurd (omega arith)) (omega arith) in
           let now =
-              subst
-              (λ (x : ℕ).
-                  g.V.SongView.work c.fill_block.new.view
-                  ≤ g.V.SongView.work c.loop-block.view + length c.args.voices.now * (6 * x)) lent
-              c.fill_block.ensures.work.1 in
           subst
-              (λ (x : ℕ).
-                  g.V.SongView.work c.fill_block.new.view
-                  ≤ g.V.SongView.work c.args.view.now + length c.args.voices.now * (6 * x)) (sym same) (omega arith);
+          (λ (x : ℕ).
+          g.V.SongView.work c.fill_block.new.view
+          ≤ g.V.SongView.work c.loop-block.view + length c.args.voices.now * (6 * x)) lent
+          c.fill_block.ensures.work.1 in
+          subst
+          (λ (x : ℕ).
+          g.V.SongView.work c.fill_block.new.view
+          ≤ g.V.SongView.work c.args.view.now + length c.args.voices.now * (6 * x)) (sym same) (omega arith);
       whole = λ le.
           let full : many ≡ 256 = full_block (256 * block) many (length c.args.out.now / 2) few whole (omega arith) in
           let before = c.loop-block.invariant.whole (omega arith) in
           let sums =
-              costs_more (256 * block / 2) (6 * (256 * block)) (5 + (many + 3) / 4) (6 * many) (256 * (block + 1) / 2)
-              (6 * (256 * (block + 1))) c.args.voices.now (omega arith) (omega arith) in
+          costs_more (256 * block / 2) (6 * (256 * block)) (5 + (many + 3) / 4) (6 * many) (256 * (block + 1) / 2)
+          (6 * (256 * (block + 1))) c.args.voices.now (omega arith) (omega arith) in
           omega (arith, cost);
       all = λ le.
           let last : 256 * block + many ≡ length c.args.out.now / 2 =
-              last_block (256 * block) many (length c.args.out.now / 2) within whole (omega arith) in
+          last_block (256 * block) many (length c.args.out.now / 2) within whole (omega arith) in
           let before = c.loop-block.invariant.whole (omega arith) in
           let sums =
-              costs_more (256 * block / 2) (6 * (256 * block)) (5 + (many + 3) / 4) (6 * many)
-              (length c.args.out.now / 2 / 2 + 8) (6 * (length c.args.out.now / 2)) c.args.voices.now (omega arith)
-              (omega arith) in
+          costs_more (256 * block / 2) (6 * (256 * block)) (5 + (many + 3) / 4) (6 * many)
+          (length c.args.out.now / 2 / 2 + 8) (6 * (length c.args.out.now / 2)) c.args.voices.now (omega arith)
+          (omega arith) in
           omega (arith, cost);
       same = g.met.V.SongView.same_through _ _ _ c.loop-block.invariant.same c.fill_block.ensures.same;
     }
@@ -89,6 +89,9 @@ returns-clause-sound g c = λ w is.
     let b = c.loop-block.invariant.frames w is in
     let many = c.loop-block.invariant.many in
     let even = c.requires.even in
-    let end = c.div_ceil-block-end.ensures in
-    (b.0, b.1, sound_is (g.V.SongView.shown c.args.view.now w).kept c.args.voices.now (length c.args.out.now / 2)
-        c.loop-block.out (omega arith) (λ k lt. b.2 k (omega arith) lt))
+    let end = c.div_ceil-block-end.ensures in (
+      b.0,
+      b.1,
+      sound_is (g.V.SongView.shown c.args.view.now w).kept c.args.voices.now (length c.args.out.now / 2)
+          c.loop-block.out (omega arith) (λ k lt. b.2 k (omega arith) lt),
+    )

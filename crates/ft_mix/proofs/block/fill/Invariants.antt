@@ -12,7 +12,7 @@ invariant-loop-block g l = record {
       → g.V.SongView.shows l.fn.view w × (g.V.SongView.shown l.view w ≡ g.V.SongView.shown l.fn.view w)
       × ((k : ℕ) → k < 256 * l.block → k < l.frames
       → mixing.IsFrame (sound.voices_sum (sound.left_of k) (g.V.SongView.shown l.fn.view w).kept l.voices)
-          (sound.voices_sum (sound.right_of k) (g.V.SongView.shown l.fn.view w).kept l.voices) k l.out);
+      (sound.voices_sum (sound.right_of k) (g.V.SongView.shown l.fn.view w).kept l.voices) k l.out);
   many : length l.out ≡ length l.fn.out;
   lines : length l.lines ≡ 512;
   holds : g.V.SongView.holds l.view ≡ g.V.SongView.holds l.fn.view;
@@ -22,7 +22,7 @@ invariant-loop-block g l = record {
       → g.V.SongView.work l.view ≤ g.V.SongView.work l.fn.view + length l.voices * (2 * work_of.frame_bound * n);
   whole : 256 * l.block ≤ l.frames
       → g.V.SongView.work l.view
-          ≤ g.V.SongView.work l.fn.view + sum_by (mixing.cost_by (256 * l.block / 2) (6 * (256 * l.block))) l.voices;
+      ≤ g.V.SongView.work l.fn.view + sum_by (mixing.cost_by (256 * l.block / 2) (6 * (256 * l.block))) l.voices;
   all : l.frames ≤ 256 * l.block
       → g.V.SongView.work l.view ≤ g.V.SongView.work l.fn.view + sum_by (mixing.tick_cost l.frames) l.voices;
   same : g.V.SongView.same l.fn.view l.view;

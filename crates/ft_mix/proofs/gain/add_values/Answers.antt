@@ -20,15 +20,15 @@ loop-k-preserved c =
     let sum = to_z-of_z w32 (get_or c.loop-k.sums k (pos 0)) (subst (FitsSigned w32) (sym here) sum_fits) in
     let value_is = to_z-of_z w32 (get_or c.args.values.now k (pos 0)) (omega (arith, ints)) in
     let now : c.added.result
-        ≡ (get_or c.args.sums.now k (pos 0) +ℤ gained (get_or c.args.values.now k (pos 0)) c.args.gain) =
+    ≡ (get_or c.args.sums.now k (pos 0) +ℤ gained (get_or c.args.values.now k (pos 0)) c.args.gain) =
     c.added.ensures.value
-        ∙ ap (λ (z : ℤ). z +ℤ gained (to_z w32 (of_z w32 (get_or c.args.values.now k (pos 0)))) c.args.gain)
-            (sum ∙ here)
+    ∙ ap (λ (z : ℤ). z +ℤ gained (to_z w32 (of_z w32 (get_or c.args.values.now k (pos 0)))) c.args.gain)
+    (sum ∙ here)
     ∙ ap (λ (z : ℤ). get_or c.args.sums.now k (pos 0) +ℤ gained z c.args.gain) value_is in
     record {
       sums = more
           (λ (j : ℕ) (x : ℤ).
-              x ≡ (get_or c.args.sums.now j (pos 0) +ℤ gained (get_or c.args.values.now j (pos 0)) c.args.gain))
+          x ≡ (get_or c.args.sums.now j (pos 0) +ℤ gained (get_or c.args.values.now j (pos 0)) c.args.gain))
           c.loop-k.sums k _ (pos 0) within c.loop-k.invariant.sums
           (back ∙ now);
       loud = λ n loud. more (λ (j : ℕ) (x : ℤ). IsLoud (n + 1) x) c.loop-k.sums k _ (pos 0) within

@@ -11,11 +11,11 @@ product_fits (pos a) gain g low high =
     let most : a * gain ≤ 32767 * 65536 = mul-le a gain 32767 65536 (omega (arith, ints)) g in omega (arith, ints)
 product_fits (negsuc a) gain g low high =
     let most : suc a * gain ≤ 32768 * 65536 = mul-le (suc a) gain 32768 65536 (omega (arith, ints)) g in
-        omega (arith, ints)
+    omega (arith, ints)
 
 pub overflow_mul-result : goal.overflow_mul-result
 overflow_mul-result c =
     subst (λ (value : ℤ). FitsSigned w32 (value *ℤ to_z w32 c.args.gain))
-        (sym (to_z-of_z w32 c.args.value c.ranges.value))
+    (sym (to_z-of_z w32 c.args.value c.ranges.value))
     (subst (λ (gain : ℤ). FitsSigned w32 (c.args.value *ℤ gain)) (sym (to_z_pos w32 c.args.gain (omega arith)))
     (product_fits c.args.value c.args.gain c.requires.gain c.requires.value_low c.requires.value_high))

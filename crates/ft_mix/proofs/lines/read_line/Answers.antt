@@ -12,12 +12,11 @@ returns-clause-line g c = λ w is.
     let b = c.value_of-first.ensures.value w a.0 in
     let head = c.args.head.now in
     let v : ℕ → ℤ =
-        λ n. value_in head (get_or (g.V.SongView.shown c.args.view.now w).kept c.args.channel None) (place_of head n) in
+    λ n. value_in head (get_or (g.V.SongView.shown c.args.view.now w).kept c.args.channel None) (place_of head n) in
     let first = to_z-of_z w32 c.value_of-first.result (search rules) ∙ b.2 in
     let second =
-        to_z-of_z w32 c.value_of-second.result (search rules) ∙ a.2
-        ∙ ap (λ (s : Shown). value_in head (get_or s.kept c.args.channel None) (place_of head (c.args.at + 1))) b.1 in
-        (
+    to_z-of_z w32 c.value_of-second.result (search rules) ∙ a.2
+    ∙ ap (λ (s : Shown). value_in head (get_or s.kept c.args.channel None) (place_of head (c.args.at + 1))) b.1 in (
       b.0,
       a.1 ∙ b.1,
       record {

@@ -30,8 +30,7 @@ loop-line-preserved g c =
           let v : ℕ → ℤ = λ n. value_in head owned (place_of head n) in
           let on = c.loop-line.invariant.next in
           let second : c.value_of-second.result ≡ value_in head owned (place_of head (next + 1)) =
-              a.2 ∙ ap (λ (s : Shown). value_in head (get_or s.kept channel None) (place_of head (next + 1))) b.1 in
-              (
+          a.2 ∙ ap (λ (s : Shown). value_in head (get_or s.kept channel None) (place_of head (next + 1))) b.1 in (
             b.0,
             a.1 ∙ b.1,
             back ∙ second,

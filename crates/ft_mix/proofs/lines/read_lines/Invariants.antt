@@ -13,7 +13,7 @@ invariant-loop-line g l = record {
   lines : (w : g.row.V-World.Denot) → g.V.SongView.shows l.view w
       → g.V.SongView.shows l.fn.view w × (g.V.SongView.shown l.view w ≡ g.V.SongView.shown l.fn.view w)
       × (l.first
-          ≡ value_in l.head (get_or (g.V.SongView.shown l.fn.view w).kept l.channel None) (place_of l.head l.next))
+      ≡ value_in l.head (get_or (g.V.SongView.shown l.fn.view w).kept l.channel None) (place_of l.head l.next))
       × mixing.AreLines l.head (get_or (g.V.SongView.shown l.fn.view w).kept l.channel None) l.at l.line-index l.lines;
   first : FitsSigned w16 l.first;
   range : mixing.AreLinesInRange l.line-index l.lines;
@@ -24,6 +24,6 @@ invariant-loop-line g l = record {
   cost : l.head.loop_kind ≡ 0 → g.V.SongView.work l.view ≤ g.V.SongView.work l.fn.view + mixing.way_cost l.at l.next;
   newest : l.head.loop_kind ≡ 0 → l.next < l.head.frames
       → (older : List ℕ)
-          × (get_or (g.V.SongView.words l.view) l.channel [] ≡ work_of.asked (work_of.word_of l.next) older);
+      × (get_or (g.V.SongView.words l.view) l.channel [] ≡ work_of.asked (work_of.word_of l.next) older);
   same : g.V.SongView.same l.fn.view l.view;
 }

@@ -30,17 +30,17 @@ returns-clause-range g c =
 pub returns-clause-ascend : goal.returns-clause-ascend
 returns-clause-ascend g c = λ low high p.
     subst (IsAscending low high) (sym (left g c))
-        (ascending_after (length c.args.out.now / 2) low high c.args.voices.now.items p)
+    (ascending_after (length c.args.out.now / 2) low high c.args.voices.now.items p)
 
 pub returns-clause-mixed : goal.returns-clause-mixed
 returns-clause-mixed g c = λ low high p.
     let keeps = g.V.SongView.keeps c.settle-on.new.view in
     subst (λ (voices : List Voice). All (IsMixed keeps (length (g.V.SongView.holds c.settle-on.new.view))) voices)
-        (sym (left g c))
+    (sym (left g c))
     (subst (λ (n : ℕ). All (IsMixed keeps n) (voices_after (length c.args.out.now / 2) c.args.voices.now.items))
-        (sym (held g c))
+    (sym (held g c))
     (mixed_after (g.V.SongView.keeps c.args.view.now) keeps (length (g.V.SongView.holds c.args.view.now))
-        (length c.args.out.now / 2) low high c.args.voices.now.items p c.requires.voices
+    (length c.args.out.now / 2) low high c.args.voices.now.items p c.requires.voices
     (λ k h le on s. c.settle-on.ensures.keeps k h (subst (λ (voices : List Voice). SoundsOn (length c.args.out.now / 2) voices k) (sym c.as_slice-2.ensures.value) on) (c.fill.ensures.keeps k h s))))
 
 pub returns-clause-wide : goal.returns-clause-wide
@@ -51,16 +51,16 @@ returns-clause-cost g c =
     let frames = length c.args.out.now / 2 in
     let voices = c.args.voices.now.items in
     let filled =
-        subst
-        (λ (l : List Voice).
-            g.V.SongView.work c.fill.new.view ≤ g.V.SongView.work c.args.view.now + sum_by (tick_cost frames) l)
-        c.as_slice.ensures.value c.fill.ensures.cost in
+    subst
+    (λ (l : List Voice).
+    g.V.SongView.work c.fill.new.view ≤ g.V.SongView.work c.args.view.now + sum_by (tick_cost frames) l)
+    c.as_slice.ensures.value c.fill.ensures.cost in
     let settled =
-        subst
-        (λ (l : List Voice). g.V.SongView.work c.settle-on.new.view ≤ g.V.SongView.work c.fill.new.view + length l)
-        c.as_slice-2.ensures.value c.settle-on.ensures.work.1 in
+    subst
+    (λ (l : List Voice). g.V.SongView.work c.settle-on.new.view ≤ g.V.SongView.work c.fill.new.view + length l)
+    c.as_slice-2.ensures.value c.settle-on.ensures.work.1 in
     let sums =
-        costs_more (frames / 2 + 8) (6 * frames) 1 1 (frames / 2 + 9) (1 + 6 * frames) voices (omega arith)
-        (omega arith) in
+    costs_more (frames / 2 + 8) (6 * frames) 1 1 (frames / 2 + 9) (1 + 6 * frames) voices (omega arith)
+    (omega arith) in
     let each = ones voices in
     omega (arith, filled, settled)

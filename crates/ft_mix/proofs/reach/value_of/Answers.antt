@@ -25,11 +25,11 @@ returns-then-i-end-clause-asks g c = λ place is.
     let same : c.args.i ≡ place = cc in
     let words = g.V.SongView.words c.args.view.now in
     let room : c.args.channel < length words =
-        omega (arith, g.met.V.SongView.worded c.args.view.now, c.requires.channel) in
+    omega (arith, g.met.V.SongView.worded c.args.view.now, c.requires.channel) in
     subst
-        (λ (n : ℕ).
-            Asked n (g.V.SongView.work c.args.view.now) (g.V.SongView.work c.frame.new.self)
-            (get_or words c.args.channel []) (get_or (g.V.SongView.words c.frame.new.self) c.args.channel [])) same
+    (λ (n : ℕ).
+    Asked n (g.V.SongView.work c.args.view.now) (g.V.SongView.work c.frame.new.self)
+    (get_or words c.args.channel []) (get_or (g.V.SongView.words c.frame.new.self) c.args.channel [])) same
     (record {
       words = ap (λ (l : List (List ℕ)). get_or l c.args.channel []) c.frame.ensures.words
           ∙ get_or-set_same words c.args.channel (asked (word_of c.args.i) (get_or words c.args.channel [])) [] room;

@@ -12,12 +12,12 @@ invariant-loop-voice g l = record {
       × (sound.shown_after l.frames (drop l.voice-index l.voices) (g.V.SongView.shown l.view w) ≡ sound.shown_after l.frames l.voices (g.V.SongView.shown l.fn.view w));
   holds :
       sound.holds_after l.frames (drop l.voice-index l.voices) (g.V.SongView.holds l.view)
-          ≡ sound.holds_after l.frames l.voices (g.V.SongView.holds l.fn.view);
+      ≡ sound.holds_after l.frames l.voices (g.V.SongView.holds l.fn.view);
   wide : length (g.V.SongView.holds l.view) ≡ length (g.V.SongView.holds l.fn.view);
   keeps : (c : ℕ) (h : SampleHead) → SoundsOn l.frames l.voices c → g.V.SongView.keeps l.fn.view c h
       → SoundsOn l.frames (drop l.voice-index l.voices) c × g.V.SongView.keeps l.view c h;
   work :
       (g.V.SongView.work l.fn.view ≤ g.V.SongView.work l.view)
-          × (g.V.SongView.work l.view ≤ g.V.SongView.work l.fn.view + l.voice-index);
+      × (g.V.SongView.work l.view ≤ g.V.SongView.work l.fn.view + l.voice-index);
   same : g.V.SongView.same l.fn.view l.view;
 }

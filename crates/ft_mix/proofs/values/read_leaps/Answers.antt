@@ -25,11 +25,10 @@ loop-value-preserved g c =
           let b = c.loop-value.invariant.values w a.0 in
           let owned = get_or (g.V.SongView.shown c.args.view.now w).kept voice.channel None in
           let line : IsLine voice.head owned (place / 2 ^ 32) c.read_line-line.result =
-              subst
-              (λ (s : Shown).
-                  IsLine voice.head (get_or s.kept voice.channel None) (place / 2 ^ 32) c.read_line-line.result) b.1 a.2
-              in
-              (
+          subst
+          (λ (s : Shown).
+          IsLine voice.head (get_or s.kept voice.channel None) (place / 2 ^ 32) c.read_line-line.result) b.1 a.2
+          in (
             b.0,
             a.1 ∙ b.1,
             more (λ (k : ℕ) (x : ℤ). x ≡ value_at voice.head owned (c.args.position + k * voice.step))

@@ -10,7 +10,7 @@ invariant-loop-value g l = record {
   values : (w : g.row.V-World.Denot) → g.V.SongView.shows l.view w
       → g.V.SongView.shows l.fn.view w × (g.V.SongView.shown l.view w ≡ g.V.SongView.shown l.fn.view w)
       × mixing.AreValues l.voice.head (get_or (g.V.SongView.shown l.fn.view w).kept l.voice.channel None) l.position
-          l.voice.step l.value-index l.values;
+      l.voice.step l.value-index l.values;
   range : mixing.Fit16 l.value-index l.values;
   holds : g.V.SongView.holds l.view ≡ g.V.SongView.holds l.fn.view;
   keeps : (c : ℕ) (h : SampleHead) → g.V.SongView.keeps l.fn.view c h → g.V.SongView.keeps l.view c h;

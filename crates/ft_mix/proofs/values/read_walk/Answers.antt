@@ -14,6 +14,6 @@ returns-clause-values g c = λ w is.
       a.1,
       λ k lt.
           c.walk.ensures.values voice.head owned (c.args.position / 2 ^ 32)
-              (λ j less. a.2 j (subst (λ (n : ℕ). j < n) c.read_lines.ensures.many less)) k lt
+          (λ j less. a.2 j (subst (λ (n : ℕ). j < n) c.read_lines.ensures.many less)) k lt
           ∙ ap (value_at voice.head owned) (from_frame c.args.position (k * voice.step)),
     )

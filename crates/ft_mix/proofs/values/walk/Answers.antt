@@ -23,7 +23,7 @@ loop-value-preserved c =
     let fits : FitsSigned w32 c.value_on.result = search rules in
     let back = to_z-of_z w32 c.value_on.result fits in
     let reached : place / 2 ^ 32 < length c.args.lines.now =
-        subst (λ (n : ℕ). n / 2 ^ 32 < length c.args.lines.now) (sym on) (c.requires.lines i (omega arith)) in
+    subst (λ (n : ℕ). n / 2 ^ 32 < length c.args.lines.now) (sym on) (c.requires.lines i (omega arith)) in
     let narrow : FitsSigned w16 c.value_on.result = omega (arith, ints) in
     record {
       place = grind arith;
@@ -33,7 +33,7 @@ loop-value-preserved c =
           (c.loop-value.invariant.values head owned at are)
           (back ∙ c.value_on.ensures.value head owned (at * 2 ^ 32 + c.args.start + i * c.args.step)
           (subst (λ (n : ℕ). IsLine head owned n (get_or c.args.lines.now (place / 2 ^ 32) flat))
-              (sym (line_of at c.args.start (i * c.args.step) place on)) (are (place / 2 ^ 32) reached))
+          (sym (line_of at c.args.start (i * c.args.step) place on)) (are (place / 2 ^ 32) reached))
           (fraction_of at c.args.start (i * c.args.step) place on));
       range =
           more (λ (k : ℕ) (x : ℤ). FitsSigned w16 x) c.loop-value.values i _ (pos 0) within c.loop-value.invariant.range

@@ -12,7 +12,7 @@ returns-in_err-put_piece-clause-front g c =
     let so_far = rw (sound_bytes-piece rest n) at c.loop-rest.invariant.0 in
     rw (err_from_is_err_and c.from_residual.result c.from_residual.ensures.1).1
     (c.taking_law.ensures.front _ _ _ (sound_bytes c.args.out.now) (sound_bytes (take n rest))
-        (sound_bytes (drop n rest)) so_far c.in_err-put_piece.ensures.front)
+    (sound_bytes (drop n rest)) so_far c.in_err-put_piece.ensures.front)
 
 pub loop-rest-preserved : goal.loop-rest-preserved
 loop-rest-preserved g c =

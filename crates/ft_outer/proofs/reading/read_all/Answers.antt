@@ -7,7 +7,7 @@ pub returns-then-count-eq0-clause-whole : goal.returns-then-count-eq0-clause-who
 returns-then-count-eq0-clause-whole g c =
     let read = c.in_ok-count.ensures.bytes in
     GivesAll-end _ _ _ c.in_ok-count.count c.loop-bytes.bytes.items c.read.new.buf c.loop-bytes.invariant.gave.consumed
-        read.0
+    read.0
     c.if-count-eq0.true (read.1 c.if-count-eq0.true (search arith))
 
 -- more was given than was wanted

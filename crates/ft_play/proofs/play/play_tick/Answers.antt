@@ -20,17 +20,21 @@ returns-clause-made g c = λ w is.
     let mid : Shown = g.V.SongView.shown c.tick_state-at.new.view w in
     let after : Shown = g.V.SongView.shown c.mix_front.new.view w in
     let j = joined song.used frames song.control song.channels song.voices.items mid c.tick_state-at.ensures.range
-    (omega
-        (arith, g.met.V.SongView.wide c.tick_state-at.new.view w m.0, c.tick_state-at.ensures.keeps.wide,
-            c.requires.wide, c.tick_state-at.ensures.used)) in
+    (omega (
+      arith,
+      g.met.V.SongView.wide c.tick_state-at.new.view w m.0,
+      c.tick_state-at.ensures.keeps.wide,
+      c.requires.wide,
+      c.tick_state-at.ensures.used,
+    )) in
     let shown : after ≡ shown_after frames song.voices.items mid = m.1 in
     let voices : c.mix_front.new.voices.items ≡ voices_after frames song.voices.items = c.mix_front.ensures.voices in
     let lanes : lanes_of (seated (take song.used song.channels) c.mix_front.new.voices.items) after.kept
-        ≡ map (lane_after frames) (sequential_of song mid).lanes =
+    ≡ map (lane_after frames) (sequential_of song mid).lanes =
     ap (λ (l : List Voice). lanes_of (seated (take song.used song.channels) l) after.kept) voices
     ∙ ap
-        (λ (s : Shown). lanes_of (seated (take song.used song.channels) (voices_after frames song.voices.items)) s.kept)
-        shown
+    (λ (s : Shown). lanes_of (seated (take song.used song.channels) (voices_after frames song.voices.items)) s.kept)
+    shown
     ∙ j.lanes in (
       t.0,
       record {
@@ -47,7 +51,7 @@ returns-clause-place g c = λ w is.
     let m = c.mix_front.ensures.sound w is in
     let before : Shown = g.V.SongView.shown c.args.view.now w in
     c.tick_state-at.ensures.place w m.0
-        ∙ tick_place before.version before.song c.args.rate (sequential_of c.args.song.now before)
+    ∙ tick_place before.version before.song c.args.rate (sequential_of c.args.song.now before)
 
 pub returns-clause-sound : goal.returns-clause-sound
 returns-clause-sound g c = λ w is.
@@ -58,12 +62,16 @@ returns-clause-sound g c = λ w is.
     let before : Shown = g.V.SongView.shown c.args.view.now w in
     let mid : Shown = g.V.SongView.shown c.tick_state-at.new.view w in
     let j = joined song.used frames song.control song.channels song.voices.items mid c.tick_state-at.ensures.range
-    (omega
-        (arith, g.met.V.SongView.wide c.tick_state-at.new.view w m.0, c.tick_state-at.ensures.keeps.wide,
-            c.requires.wide, c.tick_state-at.ensures.used)) in
+    (omega (
+      arith,
+      g.met.V.SongView.wide c.tick_state-at.new.view w m.0,
+      c.tick_state-at.ensures.keeps.wide,
+      c.requires.wide,
+      c.tick_state-at.ensures.used,
+    )) in
     m.2 ∙ j.sound
     ∙ tick_sound before.version before.song c.args.rate (sequential_of c.args.song.now before) (sequential_of song mid)
-        frames t.1.state
+    frames t.1.state
     (ap (λ (p : Place). p.frames) (c.tick_state-at.ensures.place w m.0))
 
 pub returns-clause-exact : goal.returns-clause-exact
@@ -73,7 +81,7 @@ returns-clause-exact g c = λ x d lt.
     let inside : d < length held = omega (arith, c.mix_front.ensures.wide, lt) in
     ap (λ (l : List Bool). get_or l d false) c.mix_front.ensures.holds
     ∙ exact_after 0 song.used d c.tick_state-at.result.frames song.voices.items held
-        c.tick_state-at.ensures.range.ascend inside (c.tick_state-at.ensures.keeps.exact x d inside)
+    c.tick_state-at.ensures.range.ascend inside (c.tick_state-at.ensures.keeps.exact x d inside)
     ∙ ap (sounds_on d) (sym c.mix_front.ensures.voices)
 
 pub returns-clause-work : goal.returns-clause-work
@@ -82,11 +90,13 @@ returns-clause-work g c =
     let frames = c.tick_state-at.result.frames in
     let each = 1 + 2 * frame_bound * frames in
     let few : length song.voices.items ≤ c.args.song.now.used =
-    omega
-        (arith, few_voices 0 song.used song.voices.items (omega arith) c.tick_state-at.ensures.range.ascend,
-            c.tick_state-at.ensures.used) in
+    omega (
+      arith,
+      few_voices 0 song.used song.voices.items (omega arith) c.tick_state-at.ensures.range.ascend,
+      c.tick_state-at.ensures.used,
+    ) in
     let much : length song.voices.items * each ≤ c.args.song.now.used * each =
-        mul-le (length song.voices.items) each c.args.song.now.used each few (omega arith) in
+    mul-le (length song.voices.items) each c.args.song.now.used each few (omega arith) in
     let a = c.tick_state-at.ensures.work in
     let b = c.mix_front.ensures.work in
     (omega arith, grind arith)

@@ -53,28 +53,28 @@ loop-left-preserved g c =
           let sound : take (2 * n) c.play_tick-tick.new.out ≡ (seq_tick s.version s.song c.args.rate state).sound =
           c.play_tick-tick.ensures.sound w is ∙ ap (λ (t : Tick). t.sound) same in
           let room : 2 * n ≤ length c.play_tick-tick.new.out =
-              omega (arith, c.play_tick-tick.ensures.few_frames, c.play_tick-tick.ensures.many) in
+          omega (arith, c.play_tick-tick.ensures.few_frames, c.play_tick-tick.ensures.many) in
           let long =
-              sound_long c.play_tick-tick.new.out (seq_tick s.version s.song c.args.rate state).sound n sound room in
+          sound_long c.play_tick-tick.new.out (seq_tick s.version s.song c.args.rate state).sound n sound room in
           let piece =
-              piece_of c.play_tick-tick.new.out (seq_tick s.version s.song c.args.rate state).sound n c.min-count.result
-              sound (omega (arith, c.min-count.ensures)) in
+          piece_of c.play_tick-tick.new.out (seq_tick s.version s.song c.args.rate state).sound n c.min-count.result
+          sound (omega (arith, c.min-count.ensures)) in
           let took =
-              subst
-              (λ (numbers : List ℤ).
-                  Appends (g.W.Sink.held l.wav) (g.W.Sink.held c.put_frames_through.new.sink) (sound_bytes numbers))
-              piece c.in_ok-put_frames_through.ensures.whole in
+          subst
+          (λ (numbers : List ℤ).
+          Appends (g.W.Sink.held l.wav) (g.W.Sink.held c.put_frames_through.new.sink) (sound_bytes numbers))
+          piece c.in_ok-put_frames_through.ensures.whole in
           let on = goes_on c.replay_law.ensures.ticks c.replay_law.ensures.state s.version s.song c.args.rate
-              (sequential_of c.args.song.now s) c.taking_law.ensures.joined
+          (sequential_of c.args.song.now s) c.taking_law.ensures.joined
           c.args.frames l.left n c.min-count.result _ _ _ state b.3 (omega arith) long
-              c.play_tick-tick.ensures.some_frames c.min-count.ensures took in (
+          c.play_tick-tick.ensures.some_frames c.min-count.ensures took in (
             b.0,
             a.1.version ∙ b.1,
             a.1.song ∙ b.2,
             subst (λ (x : SequentialState). Underway s.version s.song c.args.rate c.args.frames
                 (sequential_of c.args.song.now s) (g.W.Sink.held c.args.wav.now)
                 (g.W.Sink.held c.put_frames_through.new.sink) x (l.left - c.min-count.result))
-                    (sym (a.1.state ∙ ap (λ (t : Tick). t.state) same)) on,
+                (sym (a.1.state ∙ ap (λ (t : Tick). t.state) same)) on,
           );
       faults = c.in_ok-put_frames_through.ensures.cause.kept ∙ l.invariant.faults;
     }
@@ -94,17 +94,16 @@ returns-in_err-put_frames_through-clause-front g c =
     let sound : take (2 * n) c.play_tick-tick.new.out ≡ (seq_tick s.version s.song c.args.rate state).sound =
     c.play_tick-tick.ensures.sound w is ∙ ap (λ (t : Tick). t.sound) same in
     let room : 2 * n ≤ length c.play_tick-tick.new.out =
-        omega (arith, c.play_tick-tick.ensures.few_frames, c.play_tick-tick.ensures.many) in
+    omega (arith, c.play_tick-tick.ensures.few_frames, c.play_tick-tick.ensures.many) in
     let long = sound_long c.play_tick-tick.new.out (seq_tick s.version s.song c.args.rate state).sound n sound room in
     let piece =
-        piece_of c.play_tick-tick.new.out (seq_tick s.version s.song c.args.rate state).sound n c.min-count.result sound
-        (omega (arith, c.min-count.ensures)) in
+    piece_of c.play_tick-tick.new.out (seq_tick s.version s.song c.args.rate state).sound n c.min-count.result sound
+    (omega (arith, c.min-count.ensures)) in
     let part =
-        subst
-        (λ (numbers : List ℤ).
-            TakesFront (g.W.Sink.held l.wav) (g.W.Sink.held c.put_frames_through.new.sink) (sound_bytes numbers)) piece
-        c.in_err-put_frames_through.ensures.front in
-        (
+    subst
+    (λ (numbers : List ℤ).
+    TakesFront (g.W.Sink.held l.wav) (g.W.Sink.held c.put_frames_through.new.sink) (sound_bytes numbers)) piece
+    c.in_err-put_frames_through.ensures.front in (
       b.0,
       cut c.replay_law.ensures.ticks c.replay_law.ensures.state s.version s.song c.args.rate
           (sequential_of c.args.song.now s) c.taking_law.ensures.front
@@ -115,6 +114,8 @@ pub returns-clause-whole : goal.returns-clause-whole
 returns-clause-whole g c = λ w is.
     let l = c.loop-left in
     let b = l.invariant.under w is in
-    let s : Shown = g.V.SongView.shown c.args.view.now w in
-    (b.0, ends c.replay_law.ensures.ticks c.replay_law.ensures.state s.version s.song c.args.rate
-        (sequential_of c.args.song.now s) c.args.frames l.left _ _ _ b.3 (omega arith))
+    let s : Shown = g.V.SongView.shown c.args.view.now w in (
+      b.0,
+      ends c.replay_law.ensures.ticks c.replay_law.ensures.state s.version s.song c.args.rate
+          (sequential_of c.args.song.now s) c.args.frames l.left _ _ _ b.3 (omega arith),
+    )

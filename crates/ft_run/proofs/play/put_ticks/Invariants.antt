@@ -15,7 +15,7 @@ invariant-loop-left g l = record {
       × ((g.V.SongView.shown l.view w).version ≡ (g.V.SongView.shown l.fn.view w).version)
       × ((g.V.SongView.shown l.view w).song ≡ (g.V.SongView.shown l.fn.view w).song)
       × Underway (g.V.SongView.shown l.fn.view w).version (g.V.SongView.shown l.fn.view w).song l.rate l.frames
-          (sequential_of l.fn.song (g.V.SongView.shown l.fn.view w))
+      (sequential_of l.fn.song (g.V.SongView.shown l.fn.view w))
       (g.W.Sink.held l.fn.wav) (g.W.Sink.held l.wav) (sequential_of l.song (g.V.SongView.shown l.view w)) l.left;
   faults : g.W.Sink.faults l.wav ≡ g.W.Sink.faults l.fn.wav;
 }

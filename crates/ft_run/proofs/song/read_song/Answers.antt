@@ -22,11 +22,11 @@ pub returns-clause-read : goal.returns-clause-read
 returns-clause-read g c =
     let same = c.deref.ensures.value in
     subst
-        (λ (status : Status).
-            ReadsSong g.S.Source.left g.S.Source.given g.S.Source.faults c.args.source.now c.read_all.new.source status)
+    (λ (status : Status).
+    ReadsSong g.S.Source.left g.S.Source.given g.S.Source.faults c.args.source.now c.read_all.new.source status)
     (sym c.refusal_of.ensures)
     (song_refused _ _ _ _ _ c.in-Ok.bytes.items (c.in-Ok.ensures.kept (λ e. cc)) (c.in-Ok.ensures.within (λ e. cc))
-        c.in-Ok.ensures.gave c.in-Ok.ensures.whole
+    c.in-Ok.ensures.gave c.in-Ok.ensures.whole
     c.in-Err.fault (subst (λ (bytes : List ℕ). IsFaultOf bytes c.in-Err.fault) same c.in-Err.ensures.fault)
     (λ fault has. c.in-Err.ensures.refused fault (subst (λ (bytes : List ℕ). HasFault bytes fault) (sym same) has))
     (λ song spelled. c.in-Err.ensures.only song (subst (λ (bytes : List ℕ). Spells bytes song) (sym same) spelled)))

@@ -8,7 +8,7 @@ use Rattle.ft_studio.proofs.words.words_behind.Goals as goal
 pub returns : goal.returns
 returns c =
     let all = YieldsList-from_vec {s = skip_source c.skip.result} (into_iter_items c.args.args)
-        (ap into_iter_items c.skip.ensures.source)
+    (ap into_iter_items c.skip.ensures.source)
     (ap into_iter_len c.skip.ensures.source ∙ c.args.args.rest.ok.0) in
     items_from_collect c.collect.result c.collect.ensures.ran
-        (YieldsList-from_skip {s = c.skip.result} 1 all c.skip.ensures.count)
+    (YieldsList-from_skip {s = c.skip.result} 1 all c.skip.ensures.count)

@@ -15,7 +15,7 @@ pub returns-clause-value : goal.returns-clause-value
 returns-clause-value c =
     let period : c.from.result ≡ c.args.period = c.from.ensures in
     let power : c.from-power.result ≡ power_at ((32256 - c.args.period) % 768) =
-        c.from-power.ensures ∙ c.power_at.ensures.value ∙ ap (λ (p : ℕ). power_at ((32256 - p) % 768)) period in
+    c.from-power.ensures ∙ c.power_at.ensures.value ∙ ap (λ (p : ℕ). power_at ((32256 - p) % 768)) period in
     let few : c.from-power.result ≤ 131072 = omega arith in
     let octave : (32256 - c.from.result) / 768 ≤ 41 = omega arith in
     ap (λ (n : ℕ). n / 2 ^ 36) (whole c.from-power.result ((32256 - c.from.result) / 768) few octave)
@@ -28,5 +28,5 @@ returns-clause-bounded c =
     let same = whole c.from-power.result ((32256 - c.from.result) / 768) (omega arith) (omega arith) in
     let fits = room c.from-power.result ((32256 - c.from.result) / 768) (omega arith) (omega arith) in
     let all : 8363 * c.from-power.result * 2 ^ ((32256 - c.from.result) / 768) / 68719476736 ≤ 35076964352 =
-        div-le_of_le-mul 68719476736 (omega arith) in
+    div-le_of_le-mul 68719476736 (omega arith) in
     rw same (omega arith)

@@ -10,15 +10,15 @@ full volume global envelope fade v g e f =
     let one : volume * global ≤ 64 * 64 = mul-le volume global 64 64 v g in
     let two : volume * global * envelope ≤ 64 * 64 * 64 = mul-le (volume * global) envelope (64 * 64) 64 one e in
     let three : volume * global * envelope * fade ≤ 64 * 64 * 64 * 32768 =
-        mul-le (volume * global * envelope) fade (64 * 64 * 64) 32768 two f in
+    mul-le (volume * global * envelope) fade (64 * 64 * 64) 32768 two f in
     div-le_of_le-mul 131072 (omega arith)
 
 pub overflow_cast-result : goal.overflow_cast-result
 overflow_cast-result c =
     let bound =
-        full c.from.result c.from-2.result c.from-3.result c.from-4.result (omega arith) (omega arith) (omega arith)
-        (omega arith) in
-        omega arith
+    full c.from.result c.from-2.result c.from-3.result c.from-4.result (omega arith) (omega arith) (omega arith)
+    (omega arith) in
+    omega arith
 
 pub returns-clause-bounded : goal.returns-clause-bounded
 returns-clause-bounded c =

@@ -25,14 +25,14 @@ loop-c-preserved g c =
           let song = (g.V.SongView.shown c.args.view.now w).song in
           ap (set l.channels l.c) (c.hear_one.ensures.value w is ∙ ap (λ (s : Shown). rule s.song old) b.1)
           ∙ map_over_more (rule song) c.args.channels.now l.channels l.c old (omega arith) (l.invariant.value w a.0)
-              (get_or_default l.channels l.c blank_channel _ inside);
+          (get_or_default l.channels l.c blank_channel _ inside);
       range =
           set_in_range l.channels l.c c.hear_one.new.channel inside
           (c.hear_one.ensures.range l.c (l.invariant.range l.c inside)) l.invariant.range;
       keeps_all = keeps_then _ _ _ _ _ _ _ _ _ l.invariant.keeps_all
           (keeps_one _ _ _ _ l.channels l.c c.hear_one.new.channel inside
           (keeps_voice _ _ _ _ l.c _ _ c.hear_one.ensures.holds c.hear_one.ensures.keeps (c.hear_one.ensures.kept l.c)
-              c.hear_one.ensures.sounds
+          c.hear_one.ensures.sounds
           (sym (set-get_or (g.V.SongView.holds l.view) l.c false))));
       holds = c.hear_one.ensures.holds ∙ l.invariant.holds;
       keeps = λ d h is. c.hear_one.ensures.keeps d h (l.invariant.keeps d h is);

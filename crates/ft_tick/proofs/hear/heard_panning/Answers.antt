@@ -12,6 +12,6 @@ returns c =
       value = panned c.args.panning c.args.envelope c.off_middle.result c.moved.result c.room_of.result c.shifted.result
           c.off_middle.ensures.value c.room_of.ensures.value
           (c.moved.ensures.value
-              ∙ ap (λ (parts : ℤ). moved parts c.room_of.result) (to_z-of_z w32 c.off_middle.result few))
+          ∙ ap (λ (parts : ℤ). moved parts c.room_of.result) (to_z-of_z w32 c.off_middle.result few))
           (c.shifted.ensures ∙ ap (λ (shift : ℤ). brought_into (pos 0) (pos 255) (pos c.args.panning +ℤ shift)) (to_z-of_z w32 c.moved.result fits));
     }

@@ -16,15 +16,15 @@ pub returns-clause-value : goal.returns-clause-value
 returns-clause-value c =
     let fits : FitsSigned w32 c.vibrate-offset.result = search rules in
     sounded c.args.time.rate c.args.time.global c.args.time.linear c.args.volume.now c.args.panning.now c.args.shape.now
-        c.args.channel.now c.vibrate-offset.new.channel
+    c.args.channel.now c.vibrate-offset.new.channel
     c.go_on_envelopes.new.channel c.fade.new.channel c.args.voice c.heard_voice-heard.result c.vibrate-offset.result
-        c.requires.voice c.vibrate-offset.ensures.on
+    c.requires.voice c.vibrate-offset.ensures.on
     c.vibrate-offset.ensures.value
     (c.heard_voice-heard.ensures.value
     ∙ ap
-        (λ (offset : ℤ).
-            heard_voice c.args.time.linear c.args.time.rate c.args.time.global c.args.volume.now c.args.panning.now
-            offset c.vibrate-offset.new.channel c.args.voice)
+    (λ (offset : ℤ).
+    heard_voice c.args.time.linear c.args.time.rate c.args.time.global c.args.volume.now c.args.panning.now
+    offset c.vibrate-offset.new.channel c.args.voice)
     (to_z-of_z w32 c.vibrate-offset.result fits))
     c.go_on_envelopes.ensures.value
     (c.fade.ensures.value ∙ ap (λ (fadeout : ℕ). with_fade fadeout c.go_on_envelopes.new.channel) c.fadeout_of.ensures)
@@ -33,5 +33,5 @@ pub returns-clause-range : goal.returns-clause-range
 returns-clause-range c = λ k r.
     c.fade.ensures.range k (c.go_on_envelopes.ensures.range k
     (heard_in_range k c.vibrate-offset.new.channel c.args.voice c.heard_voice-heard.result
-        (c.vibrate-offset.ensures.voice ∙ c.requires.voice)
+    (c.vibrate-offset.ensures.voice ∙ c.requires.voice)
     c.heard_voice-heard.ensures.range c.heard_voice-heard.ensures.home (c.vibrate-offset.ensures.range k r)))

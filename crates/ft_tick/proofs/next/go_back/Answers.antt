@@ -8,6 +8,6 @@ pub returns-clause-state : goal.returns-clause-state
 returns-clause-state c = λ shown.
     let row = c.from-control.ensures
     ∙ sym
-        (ap (λ (l : Lane). l.channel.loop_row)
-            (get_or-lanes_of c.args.channels.now shown.kept c.args.c blank_channel c.requires)) in
+    (ap (λ (l : Lane). l.channel.loop_row)
+    (get_or-lanes_of c.args.channels.now shown.kept c.args.c blank_channel c.requires)) in
     ap (λ (r : ℕ). state_of (record c.args.control.now { row = r }) c.args.channels.now shown) row

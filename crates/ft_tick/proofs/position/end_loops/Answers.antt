@@ -9,5 +9,5 @@ pub loop-channel-preserved : goal.loop-channel-preserved
 loop-channel-preserved c =
     let l = c.loop-channel in
     rw c.end_loop.ensures (map_over_more without_loop c.args.channels.now l.channels l.channel-index
-        (get_or l.channels l.channel-index blank_channel) (omega arith) l.invariant
+    (get_or l.channels l.channel-index blank_channel) (omega arith) l.invariant
     (get_or_default l.channels l.channel-index blank_channel _ (omega arith)))

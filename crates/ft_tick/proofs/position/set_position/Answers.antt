@@ -10,10 +10,10 @@ use Rattle.ft_tick.proofs.position.set_position.Goals as goal
 pub returns-clause-state : goal.returns-clause-state
 returns-clause-state c = λ shown.
     ap
-        (λ (lanes : List Lane).
-            record { control = record c.args.control.now { pos = c.args.position; row = c.args.row }; lanes = lanes })
+    (λ (lanes : List Lane).
+    record { control = record c.args.control.now { pos = c.args.position; row = c.args.row }; lanes = lanes })
     (ap (λ (channels : List Channel). lanes_of channels shown.kept) c.end_loops.ensures
-        ∙ lanes_of-map without_loop c.args.channels.now shown.kept)
+    ∙ lanes_of-map without_loop c.args.channels.now shown.kept)
 
 pub returns-clause-voices : goal.returns-clause-voices
 returns-clause-voices c = λ d lt.

@@ -29,11 +29,11 @@ returns-then-control-eq0-clause-made g c = λ w is.
       a.0,
       made_from
           (λ (version : ℕ) (song : Module) (state : SequentialState).
-              in_turn (first_turn version song) (length c.clear_all.new.channels) state) after_rows s
+          in_turn (first_turn version song) (length c.clear_all.new.channels) state) after_rows s
           (g.V.SongView.shown c.start_all.new.view w) (state_of c.args.control.now c.clear_all.new.channels s)
-              (state_of c.args.control.now c.args.channels.now s) _
+          (state_of c.args.control.now c.args.channels.now s) _
           (rows_first s.version s.song c.args.control.now c.args.channels.now c.clear_all.new.channels s
-              c.clear_all.ensures c.if-control-eq0.true) a.1,
+          c.clear_all.ensures c.if-control-eq0.true) a.1,
     )
 
 pub returns-then-control-eq0-clause-keeps : goal.returns-then-control-eq0-clause-keeps
@@ -64,11 +64,11 @@ returns-clause-made g c = λ w is.
       a.0,
       made_from
           (λ (version : ℕ) (song : Module) (state : SequentialState).
-              in_turn (later_turn version song) (length c.clear_all.new.channels) state) after_rows s
+          in_turn (later_turn version song) (length c.clear_all.new.channels) state) after_rows s
           (g.V.SongView.shown c.go_on_all.new.view w) (state_of c.args.control.now c.clear_all.new.channels s)
-              (state_of c.args.control.now c.args.channels.now s) _
+          (state_of c.args.control.now c.args.channels.now s) _
           (rows_later s.version s.song c.args.control.now c.args.channels.now c.clear_all.new.channels s
-              c.clear_all.ensures c.if-control-eq0.false
+          c.clear_all.ensures c.if-control-eq0.false
           (λ e. c.if-control-from-eq0.false (ap (λ (t : ℕ). c.args.control.now.tick % t) c.from.ensures ∙ e))) a.1,
     )
 

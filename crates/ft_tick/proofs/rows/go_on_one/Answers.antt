@@ -18,11 +18,10 @@ returns-clause-made g c = λ w is.
     let n = c.args.c in
     let time = c.args.control.now in
     let here =
-        subst
-        (λ (t : ℕ).
-            Turned n (row_tick_of before.version before.song n (time.tick % t) (turn_of n before old time)) before after
-            c.row_tick.new.ch c.row_tick.new.ctl) c.from.ensures a.1 in
-        (
+    subst
+    (λ (t : ℕ).
+    Turned n (row_tick_of before.version before.song n (time.tick % t) (turn_of n before old time)) before after
+    c.row_tick.new.ch c.row_tick.new.ctl) c.from.ensures a.1 in (
       a.0,
       turn_made later_turn n before after time c.row_tick.new.ctl c.args.channels.now c.row_tick.new.ch
           c.requires.channel

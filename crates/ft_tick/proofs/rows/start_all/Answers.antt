@@ -13,9 +13,11 @@ loop-c-preserved g c = record {
   keeps = keeps_then _ _ _ _ _ _ _ _ _ c.loop-c.invariant.keeps c.start_one.ensures.keeps;
   range = c.start_one.ensures.range;
   playing = c.start_one.ensures.playing;
-  place =
-      (c.start_one.ensures.place.0 ∙ c.loop-c.invariant.place.0, c.start_one.ensures.place.1
-      ∙ c.loop-c.invariant.place.1);
+  place = (
+    c.start_one.ensures.place.0 ∙ c.loop-c.invariant.place.0,
+    c.start_one.ensures.place.1
+        ∙ c.loop-c.invariant.place.1,
+  );
   work = (omega arith, omega arith);
   same = g.met.V.SongView.same_through _ _ _ c.loop-c.invariant.same c.start_one.ensures.same;
 }

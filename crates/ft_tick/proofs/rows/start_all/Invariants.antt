@@ -10,17 +10,17 @@ abbrev pub invariant-loop-c : goal.invariant-loop-c
 invariant-loop-c g l = record {
   made : (w : g.row.V-World.Denot) → g.V.SongView.shows l.view w → g.V.SongView.shows l.fn.view w
       × Made (λ version song state. in_turn (first_turn version song) l.c state) (g.V.SongView.shown l.fn.view w)
-          (g.V.SongView.shown l.view w)
+      (g.V.SongView.shown l.view w)
       (state_of l.fn.control l.fn.channels (g.V.SongView.shown l.fn.view w))
-          (state_of l.control l.channels (g.V.SongView.shown l.view w));
+      (state_of l.control l.channels (g.V.SongView.shown l.view w));
   keeps :
       KeepsForAll (g.V.SongView.keeps l.fn.view) (g.V.SongView.keeps l.view) (g.V.SongView.holds l.fn.view)
-          (g.V.SongView.holds l.view) l.fn.channels l.channels;
+      (g.V.SongView.holds l.view) l.fn.channels l.channels;
   range : AreInRange l.channels;
   playing : IsPlaying (length l.channels) l.control;
   place : (l.control.pos ≡ l.fn.control.pos) × (l.control.tick ≡ l.fn.control.tick);
   work :
       (g.V.SongView.work l.fn.view ≤ g.V.SongView.work l.view)
-          × (g.V.SongView.work l.view ≤ g.V.SongView.work l.fn.view + l.c * turn_bound);
+      × (g.V.SongView.work l.view ≤ g.V.SongView.work l.fn.view + l.c * turn_bound);
   same : g.V.SongView.same l.fn.view l.view;
 }

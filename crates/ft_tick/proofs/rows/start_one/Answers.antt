@@ -25,13 +25,12 @@ returns-clause-made g c = λ w is.
     c.cell-cell.ensures.value w a.0 ∙ ap (λ (s : Shown). cell_at s.song c.order-pattern.result time.row n) d.1
     ∙ ap (λ (p : ℕ). cell_at before.song p time.row n) (c.order-pattern.ensures.value w b.0) in
     let here =
-        subst
-        (λ (s : Shown).
-            Turned n
-            (row_start_of s.version s.song n c.cell-cell.result
-                (turn_of n s (record old { cell = c.cell-cell.result }) time)) s after c.row_start.new.ch
-            c.row_start.new.ctl) (b.1 ∙ d.1) a.1 in
-        (
+    subst
+    (λ (s : Shown).
+    Turned n
+    (row_start_of s.version s.song n c.cell-cell.result
+    (turn_of n s (record old { cell = c.cell-cell.result }) time)) s after c.row_start.new.ch
+    c.row_start.new.ctl) (b.1 ∙ d.1) a.1 in (
       d.0,
       turn_made first_turn n before after time c.row_start.new.ctl c.args.channels.now c.row_start.new.ch
           c.requires.channel
@@ -42,13 +41,13 @@ returns-clause-made g c = λ w is.
 pub row_start-requires-clause-range : goal.row_start-requires-clause-range
 row_start-requires-clause-range g c =
     with_cell_in_range c.args.c (get_or c.args.channels.now c.args.c blank_channel) c.cell-cell.result
-        (c.requires.range c.args.c c.requires.channel) c.cell-cell.ensures.range
+    (c.requires.range c.args.c c.requires.channel) c.cell-cell.ensures.range
 
 pub returns-clause-keeps : goal.returns-clause-keeps
 returns-clause-keeps g c =
     keeps_lead _ _ _ _ _ _ c.args.channels.now (set c.args.channels.now c.args.c c.row_start.new.ch)
     (λ d h k. c.cell-cell.ensures.keeps d h (c.order-pattern.ensures.keeps d h k))
-        (c.cell-cell.ensures.holds ∙ c.order-pattern.ensures.holds)
+    (c.cell-cell.ensures.holds ∙ c.order-pattern.ensures.holds)
     (keeps_one _ _ _ _ c.args.channels.now c.args.c c.row_start.new.ch c.requires.channel c.row_start.ensures.keeps)
 
 pub returns-clause-range : goal.returns-clause-range
@@ -59,5 +58,5 @@ returns-clause-range g c =
 pub returns-clause-same : goal.returns-clause-same
 returns-clause-same g c =
     g.met.V.SongView.same_through _ _ _
-        (g.met.V.SongView.same_through _ _ _ c.order-pattern.ensures.same c.cell-cell.ensures.same)
-        c.row_start.ensures.same
+    (g.met.V.SongView.same_through _ _ _ c.order-pattern.ensures.same c.cell-cell.ensures.same)
+    c.row_start.ensures.same

@@ -15,10 +15,10 @@ loop-c-preserved c =
       voices =
           rw (c.take_voice.ensures.on, c.take_voice.ensures.channels)
           (more_gathered c.loop-c.on.items channels i (emptied (get_or channels i blank_channel))
-              (gathered c.args.channels.now) within c.loop-c.invariant.voices);
+          (gathered c.args.channels.now) within c.loop-c.invariant.voices);
       few = omega arith;
       channels =
           rw c.take_voice.ensures.channels
           (map_over_more emptied c.args.channels.now channels i (get_or channels i blank_channel) (omega arith)
-              c.loop-c.invariant.channels (get_or_default channels i blank_channel _ within));
+          c.loop-c.invariant.channels (get_or_default channels i blank_channel _ within));
     }

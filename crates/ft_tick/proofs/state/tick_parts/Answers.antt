@@ -15,7 +15,7 @@ use Rattle.ft_tick.proofs.state.tick_parts.Goals.{After-seat, After-gather}
 pub seat-requires : goal.seat-requires
 seat-requires g c =
     let room : length (take c.args.used c.args.channels.now) ≡ c.args.used =
-        omega (arith, length-take c.args.used c.args.channels.now, c.requires.range.few) in
+    omega (arith, length-take c.args.used c.args.channels.now, c.requires.range.few) in
     subst (All (λ voice. voice.channel < length (take c.args.used c.args.channels.now))) (sym c.as_slice.ensures.value)
     (subst (λ (n : ℕ). All (λ voice. voice.channel < n) c.args.voices.now.items) (sym room)
     (λ i d lt. below_of 0 c.args.used c.args.voices.now.items c.requires.range.ascend i d lt))
@@ -24,12 +24,12 @@ pub make_tick-at-requires-clause-range : goal.make_tick-at-requires-clause-range
 make_tick-at-requires-clause-range g c =
     let sits : c.seat.new.channels ≡ seated (take c.args.used c.args.channels.now) c.args.voices.now.items =
     c.seat.ensures.seated
-        ∙ ap (λ (voices : List Voice). seated (take c.args.used c.args.channels.now) voices) c.as_slice.ensures.value in
+    ∙ ap (λ (voices : List Voice). seated (take c.args.used c.args.channels.now) voices) c.as_slice.ensures.value in
     let many : length c.seat.new.channels ≡ c.args.used =
-        omega (arith, length-take c.args.used c.args.channels.now, c.seat.ensures.many, c.requires.range.few) in
+    omega (arith, length-take c.args.used c.args.channels.now, c.seat.ensures.many, c.requires.range.few) in
     let le : c.args.used ≤ length c.args.channels.now = omega (arith, c.requires.range.few) in
     seats_in_range c.args.used c.args.control.now c.args.channels.now c.seat.new.channels c.args.voices.now.items
-        c.requires.range le sits many
+    c.requires.range le sits many
 
 -- what is known once the voices are gathered
 record Facts (g : Over) (c : After-gather g) : Type 0 where
@@ -41,7 +41,7 @@ record Facts (g : Over) (c : After-gather g) : Type 0 where
 facts : (g : Over) (c : After-gather g) → Facts g c
 facts g c =
     let many : length c.seat.new.channels ≡ c.args.used =
-        omega (arith, length-take c.args.used c.args.channels.now, c.seat.ensures.many, c.requires.range.few) in
+    omega (arith, length-take c.args.used c.args.channels.now, c.seat.ensures.many, c.requires.range.few) in
     record {
       sits =
           c.seat.ensures.seated
@@ -58,7 +58,7 @@ returns-clause-made g c = λ w is.
     let after : Shown = g.V.SongView.shown c.make_tick-at.new.view w in
     let before : Shown = g.V.SongView.shown c.args.view.now w in
     let back = parts_back c.args.used c.make_tick-at.new.control c.make_tick-at.new.channels c.gather.new.channels _
-        c.gather.result.items f.made c.make_tick-at.ensures.range
+    c.gather.result.items f.made c.make_tick-at.ensures.range
     c.gather.ensures.channels c.gather.ensures.voices in (
       a.0,
       record {
@@ -66,9 +66,9 @@ returns-clause-made g c = λ w is.
         song = a.1.song;
         state = ap (λ (channels : List Channel). state_of c.make_tick-at.new.control channels after) back ∙ a.1.state
             ∙ ap
-                (λ (channels : List Channel).
-                    (tick_state_of before.version before.song c.args.rate (state_of c.args.control.now channels before)).state)
-                f.sits;
+            (λ (channels : List Channel).
+            (tick_state_of before.version before.song c.args.rate (state_of c.args.control.now channels before)).state)
+            f.sits;
       },
     )
 
@@ -76,15 +76,15 @@ pub returns-clause-keeps : goal.returns-clause-keeps
 returns-clause-keeps g c =
     let f = facts g c in
     parts_keep (g.V.SongView.keeps c.args.view.now) (g.V.SongView.keeps c.make_tick-at.new.view)
-        (g.V.SongView.holds c.args.view.now) (g.V.SongView.holds c.make_tick-at.new.view)
+    (g.V.SongView.holds c.args.view.now) (g.V.SongView.holds c.make_tick-at.new.view)
     c.args.used c.args.control.now c.make_tick-at.new.control c.args.channels.now c.seat.new.channels
-        c.make_tick-at.new.channels c.args.voices.now.items c.gather.result.items
+    c.make_tick-at.new.channels c.args.voices.now.items c.gather.result.items
     c.requires.range f.le f.sits f.many c.requires.wide c.make_tick-at.ensures.keeps c.make_tick-at.ensures.range
-        c.gather.ensures.voices
+    c.gather.ensures.voices
 
 pub returns-clause-range : goal.returns-clause-range
 returns-clause-range g c =
     let f = facts g c in
     parts_range c.args.used c.make_tick-at.new.control c.make_tick-at.new.channels c.gather.new.channels _
-        c.gather.result.items c.requires.range.few f.made c.make_tick-at.ensures.range
+    c.gather.result.items c.requires.range.few f.made c.make_tick-at.ensures.range
     c.gather.ensures.channels c.gather.ensures.voices

@@ -11,7 +11,7 @@ returns c =
     let some = λ (q : ValueParser). Some q in
     let made : c.value_parser.result ≡ record c.required.result { value_parser = Some c.args.parser } =
     c.value_parser.ensures.others
-        ∙ ap (λ (p : Option ValueParser). record c.required.result { value_parser = p }) (given.1 ∙ ap some given.2) in
+    ∙ ap (λ (p : Option ValueParser). record c.required.result { value_parser = p }) (given.1 ∙ ap some given.2) in
     let before : rule_of c.required.result ≡ file_rule c.args.id.now = search rules in
     let local : c.required.result.global ≡ false = search rules in
     record {

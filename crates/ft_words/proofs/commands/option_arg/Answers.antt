@@ -11,12 +11,12 @@ returns c =
     let some = λ (q : ValueParser). Some q in
     let made : c.value_parser.result ≡ record c.default_value.result { value_parser = Some c.args.parser } =
     c.value_parser.ensures.others
-        ∙ ap (λ (p : Option ValueParser). record c.default_value.result { value_parser = p })
-            (given.1 ∙ ap some given.2) in
+    ∙ ap (λ (p : Option ValueParser). record c.default_value.result { value_parser = p })
+    (given.1 ∙ ap some given.2) in
     let before : rule_of c.default_value.result
-        ≡ record (new_rule c.args.id.now)
-            { long = Some c.args.id.now; action = Some Set; defaults = c.args.default.now ∷ [] } =
-        search rules in
+    ≡ record (new_rule c.args.id.now)
+    { long = Some c.args.id.now; action = Some Set; defaults = c.args.default.now ∷ [] } =
+    search rules in
     let local : c.default_value.result.global ≡ false = search rules in
     record {
       rule = ap rule_of made ∙ ap (λ (r : Rule). record r { parser = Some c.args.parser }) before;

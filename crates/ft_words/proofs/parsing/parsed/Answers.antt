@@ -21,7 +21,9 @@ returns-clause-exact c =
     let free = ap is_simple_and_free shape ∙ all_simple c.args.verb in
     let other : kind_of c.in-Err.error ≡ kind.OutOfMemory → ⊥ = λ memory.
     let same : c.eq.result ≡ true = rw (c.kind.ensures ∙ memory) at c.eq.ensures in
-        true≢false (sym same ∙ c.if-eq.false) in
-    inr
-        (refl, λ none. fault_told _ c.in-Err.error (c.in-Err.ensures.kinds free) other
-            (ap (λ (a : App). fault_of a ws) shape ∙ none))
+    true≢false (sym same ∙ c.if-eq.false) in
+    inr (
+      refl,
+      λ none. fault_told _ c.in-Err.error (c.in-Err.ensures.kinds free) other
+          (ap (λ (a : App). fault_of a ws) shape ∙ none),
+    )

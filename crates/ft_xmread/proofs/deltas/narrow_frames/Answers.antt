@@ -18,8 +18,7 @@ loop-step-preserved c =
     let value = (c.loop-step.value + get_or steps i 0) % 256 in
     let fits : FitsSigned w16 c.frame_of.result = search rules in
     let pushed : cast_signed w16 (of_z w16 c.frame_of.result) ≡ cast_signed w8 value =
-        to_z-of_z w16 c.frame_of.result fits ∙ c.frame_of.ensures in
-        (
+    to_z-of_z w16 c.frame_of.result fits ∙ c.frame_of.ensures in (
       rw (c.push_reserved.ensures.items, pushed)
           (next_frame steps i c.loop-step.value value c.loop-step.frames.items (narrow_frames steps) c.loop-step-test.true refl c.loop-step.invariant.0),
       search rules,

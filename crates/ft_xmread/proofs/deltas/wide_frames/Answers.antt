@@ -19,12 +19,11 @@ loop-i-preserved c =
     let i = c.loop-i.i in
     let left : length (drop (2 * i) steps) ≤ length steps - 2 * i = omega (arith, length-drop (2 * i) steps) in
     let step : c.read_u16-value.result ≡ little_number 2 (drop (2 * i) steps) =
-        c.read_u16-value.ensures ∙ ap (little_number 2) (take_all (length steps - 2 * i) (drop (2 * i) steps) left) in
+    c.read_u16-value.ensures ∙ ap (little_number 2) (take_all (length steps - 2 * i) (drop (2 * i) steps) left) in
     let value = (c.loop-i.value + c.read_u16-value.result) % 65536 in
     let fits : FitsSigned w16 c.cast_signed.result = search rules in
     let pushed : cast_signed w16 (of_z w16 c.cast_signed.result) ≡ cast_signed w16 value =
-        to_z-of_z w16 c.cast_signed.result fits ∙ c.cast_signed.ensures in
-        (
+    to_z-of_z w16 c.cast_signed.result fits ∙ c.cast_signed.ensures in (
       rw (c.push_reserved.ensures.items, pushed)
           (next_wide steps i c.loop-i.value value c.loop-i.frames.items (wide_frames steps) (omega (arith, c.loop-i-test.true)) (ap (λ (n : ℕ). (c.loop-i.value + n) % 65536) step) c.loop-i.invariant.0),
       search rules,
@@ -35,4 +34,4 @@ pub returns-clause-value : goal.returns-clause-value
 returns-clause-value c =
     let steps = c.args.steps.now in
     last_wide (drop (2 * c.loop-i.i) steps) c.loop-i.value c.loop-i.frames.items (wide_frames steps)
-        (omega (arith, c.loop-i-test.false, length-drop (2 * c.loop-i.i) steps)) c.loop-i.invariant.0
+    (omega (arith, c.loop-i-test.false, length-drop (2 * c.loop-i.i) steps)) c.loop-i.invariant.0

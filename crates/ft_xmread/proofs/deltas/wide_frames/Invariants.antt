@@ -6,5 +6,5 @@ use Rattle.ft_xmread.proofs.deltas.wide_frames.Given as goal
 abbrev pub invariant-loop-i : goal.invariant-loop-i
 invariant-loop-i l =
     (l.frames.items ++ map (cast_signed w16) (sums_from 65536 l.value (pairs_of (drop (2 * l.i) l.steps)))
-        ≡ wide_frames l.steps)
+    ≡ wide_frames l.steps)
     × (vec_len l.frames ≡ l.i) × (l.count ≤ vec_capacity l.frames)

@@ -9,5 +9,5 @@ invariant-loop-k l = record {
   whole : length l.points ≡ 12;
   so_far :
       with_front (take l.k l.points) (times (λ _. point_at) l.k (12 - l.k) l.reader)
-          ≡ times (λ _. point_at) 0 12 l.fn.reader;
+      ≡ times (λ _. point_at) 0 12 l.fn.reader;
 }

@@ -9,9 +9,9 @@ pub returns-in_err-cell : goal.returns-in_err-cell
 returns-in_err-cell c =
     let p = err_from_is_err_and c.from_residual-in_err-cell.result c.from_residual-in_err-cell.ensures.1 in
     rw (p.1, p.2)
-        (fails_on (λ _. cell_spelled_at c.args.number) c.in_err-cell.field-0.0 c.loop.cells.items c.args.count
-            c.loop.counter c.loop.reader (times (λ _. cell_spelled_at c.args.number) 0 c.args.count c.args.reader.now)
-            c.loop-test.true c.in_err-cell.ensures c.loop.invariant.0)
+    (fails_on (λ _. cell_spelled_at c.args.number) c.in_err-cell.field-0.0 c.loop.cells.items c.args.count
+    c.loop.counter c.loop.reader (times (λ _. cell_spelled_at c.args.number) 0 c.args.count c.args.reader.now)
+    c.loop-test.true c.in_err-cell.ensures c.loop.invariant.0)
 
 pub loop-preserved : goal.loop-preserved
 loop-preserved c =

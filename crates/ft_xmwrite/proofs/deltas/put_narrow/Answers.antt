@@ -16,12 +16,12 @@ loop-frame-preserved c =
     let fits : FitsSigned w16 frame = search rules in
     let value : c.cast_unsigned-value.result ≡ cast_unsigned w8 frame =
     c.cast_unsigned-value.ensures ∙ ap (λ (z : ℤ). of_z w8 (to_z w8 (of_z w8 z))) (to_z-of_z w16 frame fits)
-        ∙ ap (of_z w8) (to_z-of_z w8 frame narrow)
+    ∙ ap (of_z w8) (to_z-of_z w8 frame narrow)
     in
     record {
       steps = rw c.push_reserved.ensures.items
           (next_narrow frames i c.loop-frame.before c.cast_unsigned-value.result c.loop-frame.bytes.items
-              (c.args.bytes.now.items ++ steps_from 256 0 (map (cast_unsigned w8) frames))
+          (c.args.bytes.now.items ++ steps_from 256 0 (map (cast_unsigned w8) frames))
           c.loop-frame-test.true value c.loop-frame.invariant.steps);
       room = omega (arith, length-drop i frames, length-drop (i + 1) frames);
     }

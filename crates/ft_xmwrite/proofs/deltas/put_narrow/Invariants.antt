@@ -7,6 +7,6 @@ abbrev pub invariant-loop-frame : goal.invariant-loop-frame
 invariant-loop-frame l = record {
   steps :
       l.bytes.items ++ steps_from (2 ^ 8) l.before (map (cast_unsigned w8) (drop l.frame-index l.frames))
-          ≡ l.fn.bytes.items ++ steps_from (2 ^ 8) 0 (map (cast_unsigned w8) l.frames);
+      ≡ l.fn.bytes.items ++ steps_from (2 ^ 8) 0 (map (cast_unsigned w8) l.frames);
   room : vec_len l.bytes + length (drop l.frame-index l.frames) ≤ vec_capacity l.bytes;
 }

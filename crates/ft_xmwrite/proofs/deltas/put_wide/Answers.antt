@@ -15,10 +15,10 @@ loop-frame-preserved c =
     record {
       steps = rw (c.push_reserved-in-loop-frame.ensures.items, c.push_reserved.ensures.items)
           (next_wide frames i c.loop-frame.before c.cast_unsigned-value.result (get_or c.to_le_bytes.result 0 0)
-              (get_or c.to_le_bytes.result 1 0) c.loop-frame.bytes.items
+          (get_or c.to_le_bytes.result 1 0) c.loop-frame.bytes.items
           (c.args.bytes.now.items ++ flat_map u16 (steps_from 65536 0 (map (cast_unsigned w16) frames)))
-              c.loop-frame-test.true value
+          c.loop-frame-test.true value
           (ap (λ (l : List ℕ). get_or l 0 0) c.to_le_bytes.ensures)
-              (ap (λ (l : List ℕ). get_or l 1 0) c.to_le_bytes.ensures) c.loop-frame.invariant.steps);
+          (ap (λ (l : List ℕ). get_or l 1 0) c.to_le_bytes.ensures) c.loop-frame.invariant.steps);
       room = omega (arith, length-drop i frames, length-drop (i + 1) frames);
     }

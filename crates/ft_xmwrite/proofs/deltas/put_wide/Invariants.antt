@@ -9,7 +9,7 @@ abbrev pub invariant-loop-frame : goal.invariant-loop-frame
 invariant-loop-frame l = record {
   steps :
       l.bytes.items
-          ++ flat_map u16 (steps_from (2 ^ 16) l.before (map (cast_unsigned w16) (drop l.frame-index l.frames)))
-          ≡ l.fn.bytes.items ++ flat_map u16 (steps_from (2 ^ 16) 0 (map (cast_unsigned w16) l.frames));
+      ++ flat_map u16 (steps_from (2 ^ 16) l.before (map (cast_unsigned w16) (drop l.frame-index l.frames)))
+      ≡ l.fn.bytes.items ++ flat_map u16 (steps_from (2 ^ 16) 0 (map (cast_unsigned w16) l.frames));
   room : vec_len l.bytes + 2 * length (drop l.frame-index l.frames) ≤ vec_capacity l.bytes;
 }

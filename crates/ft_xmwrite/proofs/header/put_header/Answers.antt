@@ -18,7 +18,7 @@ returns c =
     let set = c.put_sizes.new.bytes.items in
     five c.put_orders.result old named sized set c.put_settings.new.bytes.items c.put_orders.new.bytes.items
     IDENTIFICATION (titles_text (titles_of song)) (sizes_text (sizes_of song)) (settings_text (settings_of song))
-        (order_table song.orders)
+    (order_table song.orders)
     c.in_ok-put.ensures
     (c.in_ok-put_titles.ensures ∙ ap (λ (titles : Titles). named ++ titles_text titles) c.titles_of.ensures)
     (c.in_ok-put_sizes.ensures ∙ ap (λ (sizes : Sizes). sized ++ sizes_text sizes) c.sizes_of.ensures)

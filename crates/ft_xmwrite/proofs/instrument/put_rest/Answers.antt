@@ -14,11 +14,11 @@ returns c =
     let old = c.args.bytes.now.items in
     let headed = c.put_zeros.new.bytes.items in
     four c.put_samples_data.result old c.put_extra.new.bytes.items headed c.put_sample_headers.new.bytes.items
-        c.put_samples_data.new.bytes.items
+    c.put_samples_data.new.bytes.items
     (extra_text (extra_of instrument)) (replicate UNUSED 0) (flat_map sample_header_bytes instrument.samples)
-        (flat_map sample_data instrument.samples)
+    (flat_map sample_data instrument.samples)
     (c.in_ok-put_extra.ensures ∙ ap (λ (extra : Extra). old ++ extra_text extra) c.extra_of.ensures)
     c.in_ok-put_zeros.ensures
     (c.in_ok-put_sample_headers.ensures
-        ∙ ap (λ (samples : List Sample). headed ++ flat_map sample_header_bytes samples) c.as_slice-samples.ensures)
+    ∙ ap (λ (samples : List Sample). headed ++ flat_map sample_header_bytes samples) c.as_slice-samples.ensures)
     (rw c.as_slice-samples.ensures at c.put_samples_data.ensures)

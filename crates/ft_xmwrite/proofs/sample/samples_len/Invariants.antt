@@ -7,7 +7,7 @@ abbrev pub invariant-loop-sample : goal.invariant-loop-sample
 invariant-loop-sample l = record {
   so_far :
       l.len
-          ≡ length (flat_map sample_header_bytes (take l.sample-index l.samples))
-              + length (flat_map sample_data (take l.sample-index l.samples));
+      ≡ length (flat_map sample_header_bytes (take l.sample-index l.samples))
+      + length (flat_map sample_data (take l.sample-index l.samples));
   few : l.len ≤ 7864360 * l.sample-index;
 }

@@ -12,11 +12,11 @@ pub returns-clause-state : goal.returns-clause-state
 returns-clause-state c = λ shown none.
     let n = c.args.channels in
     ap (λ (x : Control). state_of x (seated (take n (replicate 32 c.first-2.result)) c.new.result.items) shown)
-        c.first.ensures
+    c.first.ensures
     ∙ ap (λ (x : Channel). state_of first_control (seated (take n (replicate 32 x)) c.new.result.items) shown)
-        c.first-2.ensures
+    c.first-2.ensures
     ∙ ap (λ (l : List Voice). state_of first_control (seated (take n (replicate 32 first_channel)) l) shown)
-        c.new.ensures
+    c.new.ensures
     ∙ first_stands shown n c.requires none
 
 pub returns-clause-range : goal.returns-clause-range

@@ -17,12 +17,12 @@ pub returns-clause-shown : goal.returns-clause-shown
 returns-clause-shown c = λ version.
     let many : c.loop.counter ≡ c.args.song.now.channels = omega arith in
     ap (λ (kept : List (Option Kept)). shown_of version c.args.song.now kept)
-        (c.loop.invariant ∙ ap (λ (n : ℕ). replicate n None) many)
+    (c.loop.invariant ∙ ap (λ (n : ℕ). replicate n None) many)
     ∙ ap (λ (kept : List (Option Owned)). record { version = version; song = c.args.song.now; kept = kept })
-        (owned_none version c.args.song.now.channels)
+    (owned_none version c.args.song.now.channels)
 
 pub returns-clause-holds : goal.returns-clause-holds
 returns-clause-holds c =
     let many : c.loop.counter ≡ c.args.song.now.channels = omega arith in
     ap (map (is_some {T = Kept})) (c.loop.invariant ∙ ap (λ (n : ℕ). replicate n None) many)
-        ∙ held_none c.args.song.now.channels
+    ∙ held_none c.args.song.now.channels

@@ -7,9 +7,11 @@ use Rattle.ft_types.specs.ModuleViewLaws as laws
 use Rattle.ft_types.proofs.module_view.ModuleViewSongView.frame.Goals as goal
 
 pub returns-clause-shows : goal.returns-clause-shows
-returns-clause-shows c = λ w is.
-    (tt, ap (λ (kept : List (Option Owned)). record { version = w; song = c.args.self.now.song.now; kept = kept })
-        (c.ask.ensures.owned w))
+returns-clause-shows c = λ w is. (
+  tt,
+  ap (λ (kept : List (Option Owned)). record { version = w; song = c.args.self.now.song.now; kept = kept })
+      (c.ask.ensures.owned w),
+)
 
 pub returns-clause-value : goal.returns-clause-value
 returns-clause-value c = λ w is.

@@ -13,7 +13,7 @@ begins : (c : After-head) (w : ℕ)
 begins c w =
     c.keep-kept.ensures.owned w
     ∙ laws.begins w c.args.self.now.song.now c.args.instrument c.args.note c.number-number.result
-        c.number-number.ensures
+    c.number-number.ensures
 
 pub returns-clause-shows : goal.returns-clause-shows
 returns-clause-shows c = λ w is.
@@ -33,7 +33,7 @@ returns-clause-holds c =
     let kept = c.args.self.now.kept.items in
     ap (map (is_some {T = Kept})) c.put.ensures ∙ map-set (is_some {T = Kept}) kept c.args.channel c.keep-kept.result
     ∙ ap (set (map (is_some {T = Kept}) kept) c.args.channel)
-        (sym (ap is_some c.head.ensures.value ∙ laws.has_head c.keep-kept.result))
+    (sym (ap is_some c.head.ensures.value ∙ laws.has_head c.keep-kept.result))
 
 pub returns-clause-words : goal.returns-clause-words
 returns-clause-words c =

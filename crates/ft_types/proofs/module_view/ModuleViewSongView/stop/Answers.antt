@@ -6,9 +6,11 @@ use Rattle.ft_types.specs.ModuleViewLaws as laws
 use Rattle.ft_types.proofs.module_view.ModuleViewSongView.stop.Goals as goal
 
 pub returns-clause-shows : goal.returns-clause-shows
-returns-clause-shows c = λ w is.
-    (tt, ap (shown_of w c.args.self.now.song.now) c.put.ensures
-        ∙ laws.sets w c.args.self.now.song.now c.args.self.now.kept.items c.args.channel None)
+returns-clause-shows c = λ w is. (
+  tt,
+  ap (shown_of w c.args.self.now.song.now) c.put.ensures
+      ∙ laws.sets w c.args.self.now.song.now c.args.self.now.kept.items c.args.channel None,
+)
 
 pub returns-clause-holds : goal.returns-clause-holds
 returns-clause-holds c =
