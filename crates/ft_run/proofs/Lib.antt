@@ -1,3 +1,4 @@
 pub mod Output
 pub mod Songs
 pub mod Underway
+mod Measuring

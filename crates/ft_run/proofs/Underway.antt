@@ -21,16 +21,21 @@ sound_after version song rate state ticks =
 abbrev pub after_ticks : ℕ → Module → ℕ → SequentialState → ℕ → SequentialState
 after_ticks version song rate state ticks = state_after (λ version. song) (replicate ticks version) rate state
 
--- so many ticks were written; all of them are whole, but maybe the last
-pub record Underway (version : ℕ) (song : Module) (rate frames : ℕ) (first : SequentialState)
-    (old now : Option (List ℕ)) (state : SequentialState) (left : ℕ) : Type 0 where
-  pub ticks : ℕ
+-- so many ticks were played; all of them are whole, but maybe the last
+pub record Played (version : ℕ) (song : Module) (rate frames : ℕ) (first : SequentialState) (ticks : ℕ)
+    (state : SequentialState) (left : ℕ) : Type 0 where
   pub played : ℕ
   pub at : state ≡ after_ticks version song rate first ticks
   pub long : length (sound_after version song rate first ticks) ≡ 2 * played
   pub few : ticks ≤ frames
   pub slow : ticks ≤ played
   pub rest : left ≡ frames - played
+
+-- and written
+pub record Underway (version : ℕ) (song : Module) (rate frames : ℕ) (first : SequentialState)
+    (old now : Option (List ℕ)) (state : SequentialState) (left : ℕ) : Type 0 where
+  pub ticks : ℕ
+  pub so_far : Played version song rate frames first ticks state left
   pub took : Appends old now (sound_bytes (take (2 * frames) (sound_after version song rate first ticks)))
 
 -- ---- numbers and their bytes
@@ -119,26 +124,85 @@ module _ (ticks_law : TicksGoOn) (state_law : StateGoesOn) (version : ℕ) (song
       (state_then ticks 1 ∙ ap (λ (s : SequentialState). after_ticks version song rate s 1) (sym e))
 
   -- so far the ticks were whole
-  so_far : (frames left : ℕ) (old now : Option (List ℕ)) (state : SequentialState)
+  all_whole : (frames ticks left : ℕ) (state : SequentialState) → Played version song rate frames first ticks state left
+      → 1 ≤ left → take (2 * frames) (T ticks) ≡ T ticks
+  all_whole frames ticks left state p some =
+      let rest = p.rest in let long = p.long in take_all (2 * frames) (T ticks) (omega (arith, long, rest))
+
+  written : (frames left : ℕ) (old now : Option (List ℕ)) (state : SequentialState)
       (u : Underway version song rate frames first old now state left) → 1 ≤ left
       → Appends old now (sound_bytes (T u.ticks))
-  so_far frames left old now state u some =
-      let rest = u.rest in let long = u.long in
-      subst (λ (l : List ℤ). Appends old now (sound_bytes l))
-      (take_all (2 * frames) (T u.ticks) (omega (arith, long, rest))) u.took
+  written frames left old now state u some =
+      subst (λ (l : List ℤ). Appends old now (sound_bytes l)) (all_whole frames u.ticks left state u.so_far some) u.took
 
-  pub begins : TakesNothingFirst → TakesAllLast → (frames : ℕ) (old : Option (List ℕ))
-      → Underway version song rate frames first old old first frames
-  begins nothing all frames old = record {
-    ticks = 0;
+  pub plays_none : (frames : ℕ) → Played version song rate frames first 0 first frames
+  plays_none frames = record {
     played = 0;
     at = refl;
     long = refl;
     few = omega arith;
     slow = omega arith;
     rest = omega arith;
-    took =
-        subst (λ (l : List ℤ). Appends old old (sound_bytes l)) (sym (take_all (2 * frames) [] (omega arith)))
+  }
+
+  -- one tick more is played
+  pub plays_on : (frames ticks left n count : ℕ) (state : SequentialState) → Played version song rate frames first ticks state left
+      → 1 ≤ left → length (next state).sound ≡ 2 * n → 1 ≤ n → count ≡ min n left
+      → Played version song rate frames first (ticks + 1) (next state).state (left - count)
+  plays_on frames ticks left n count state p some many one least =
+      let rest = p.rest in let long = p.long in let slow = p.slow in
+      record {
+        played = p.played + n;
+        at = state_next ticks state p.at;
+        long = ap (λ (l : List ℤ). length l) (sound_next ticks state p.at) ∙ length-append (T ticks) (next state).sound
+            ∙ (omega (arith, long, many));
+        few = omega (arith, rest, slow);
+        slow = omega (arith, slow, one);
+        rest = left_after n left count p.played frames least rest;
+      }
+
+  -- its sound follows, cut by what is left
+  sound_on : (frames ticks left n count : ℕ) (state : SequentialState) → Played version song rate frames first ticks state left
+      → 1 ≤ left → length (next state).sound ≡ 2 * n → count ≡ min n left
+      → take (2 * frames) (T (ticks + 1)) ≡ T ticks ++ take (2 * count) (next state).sound
+  sound_on frames ticks left n count state p some many least =
+      let rest = p.rest in let long = p.long in
+      let sound = (next state).sound in
+      let within : length (T ticks) ≤ 2 * frames = omega (arith, long, rest) in
+      let gap : 2 * frames - length (T ticks) ≡ 2 * left = omega (arith, long, rest) in
+      ap (take (2 * frames)) (sound_next ticks state p.at) ∙ take_past (2 * frames) (T ticks) sound within
+      ∙ ap (λ (k : ℕ). T ticks ++ take k sound) gap
+      ∙ ap (λ (l : List ℤ). T ticks ++ l) (cut_same sound n left count many least)
+
+  -- and what was heard before stays
+  pub heard_on : (frames ticks left n count : ℕ) (state : SequentialState) → Played version song rate frames first ticks state left
+      → 1 ≤ left → length (next state).sound ≡ 2 * n → count ≡ min n left
+      → take (2 * frames) (T (ticks + 1)) ≡ take (2 * frames) (T ticks) ++ take (2 * count) (next state).sound
+  heard_on frames ticks left n count state p some many least =
+      sound_on frames ticks left n count state p some many least
+      ∙ ap (λ (l : List ℤ). l ++ take (2 * count) (next state).sound) (sym (all_whole frames ticks left state p some))
+
+  -- all is heard once nothing is left
+  pub heard_all : (frames ticks left : ℕ) (state : SequentialState) → Played version song rate frames first ticks state left
+      → left ≡ 0 → take (2 * frames) (T ticks) ≡ sound_from version song frames rate first
+  unfolding sound_from
+  heard_all frames ticks left state p none =
+      let rest = p.rest in let long = p.long in let few = p.few in
+      let others = frames - ticks in
+      let all : T frames ≡ T ticks ++ sound_after version song rate (after_ticks version song rate first ticks) others =
+      ap T (let e : frames ≡ ticks + others = omega arith in e) ∙ sound_then ticks others in
+      sym
+      (ap (take (2 * frames)) all
+      ∙ take_within (2 * frames) (T ticks)
+      (sound_after version song rate (after_ticks version song rate first ticks) others)
+      (omega (arith, long, rest, none)))
+
+  pub begins : TakesNothingFirst → TakesAllLast → (frames : ℕ) (old : Option (List ℕ))
+      → Underway version song rate frames first old old first frames
+  begins nothing all frames old = record {
+    ticks = 0;
+    so_far = plays_none frames;
+    took = subst (λ (l : List ℤ). Appends old old (sound_bytes l)) (sym (take_all (2 * frames) [] (omega arith)))
         (all old old [] [] (nothing old []) refl);
   }
 
@@ -148,46 +212,22 @@ module _ (ticks_law : TicksGoOn) (state_law : StateGoesOn) (version : ℕ) (song
       → 1 ≤ left → length (next state).sound ≡ 2 * n → 1 ≤ n → count ≡ min n left
       → Appends now later (sound_bytes (take (2 * count) (next state).sound))
       → Underway version song rate frames first old later (next state).state (left - count)
-  goes_on joined frames left n count old now later state u some many ticks least took =
-      let rest = u.rest in let long = u.long in let slow = u.slow in let few = u.few in
-      let sound = (next state).sound in
-      let more = sound_next u.ticks state u.at in
-      let within : length (T u.ticks) ≤ 2 * frames = omega (arith, long, rest) in
-      let gap : 2 * frames - length (T u.ticks) ≡ 2 * left = omega (arith, long, rest) in
-      let whole : take (2 * frames) (T (u.ticks + 1)) ≡ T u.ticks ++ take (2 * count) sound =
-      ap (take (2 * frames)) more ∙ take_past (2 * frames) (T u.ticks) sound within
-      ∙ ap (λ (k : ℕ). T u.ticks ++ take k sound) gap
-      ∙ ap (λ (l : List ℤ). T u.ticks ++ l) (cut_same sound n left count many least) in
+  goes_on joined frames left n count old now later state u some many one least took =
+      let piece = take (2 * count) (next state).sound in
       record {
         ticks = u.ticks + 1;
-        played = u.played + n;
-        at = state_next u.ticks state u.at;
-        long = ap (λ (l : List ℤ). length l) more ∙ length-append (T u.ticks) sound ∙ (omega (arith, long, many));
-        few = omega (arith, rest, slow);
-        slow = omega (arith, slow, ticks);
-        rest = left_after n left count u.played frames least rest;
-        took = subst (λ (l : List ℤ). Appends old later (sound_bytes l)) (sym whole)
-            (subst (λ (l : List ℕ). Appends old later l) (sym (sound_bytes-append (T u.ticks) (take (2 * count) sound)))
-            (joined old now later (sound_bytes (T u.ticks)) (sound_bytes (take (2 * count) sound)) (so_far frames left old now state u some) took));
+        so_far = plays_on frames u.ticks left n count state u.so_far some many one least;
+        took = subst (λ (l : List ℤ). Appends old later (sound_bytes l))
+            (sym (sound_on frames u.ticks left n count state u.so_far some many least))
+            (subst (λ (l : List ℕ). Appends old later l) (sym (sound_bytes-append (T u.ticks) piece))
+            (joined old now later (sound_bytes (T u.ticks)) (sound_bytes piece) (written frames left old now state u some) took));
       }
 
   pub ends : (frames left : ℕ) (old now : Option (List ℕ)) (state : SequentialState)
       (u : Underway version song rate frames first old now state left) → left ≡ 0
       → Appends old now (sound_bytes (sound_from version song frames rate first))
-  unfolding sound_from
   ends frames left old now state u none =
-      let rest = u.rest in let long = u.long in let few = u.few in
-      let others = frames - u.ticks in
-      let all : T frames
-      ≡ T u.ticks ++ sound_after version song rate (after_ticks version song rate first u.ticks) others =
-      ap T (let e : frames ≡ u.ticks + others = omega arith in e) ∙ sound_then u.ticks others in
-      subst (λ (l : List ℤ). Appends old now (sound_bytes l))
-      (sym
-      (ap (take (2 * frames)) all
-      ∙ take_within (2 * frames) (T u.ticks)
-      (sound_after version song rate (after_ticks version song rate first u.ticks) others)
-      (omega (arith, long, rest, none))))
-      u.took
+      subst (λ (l : List ℤ). Appends old now (sound_bytes l)) (heard_all frames u.ticks left state u.so_far none) u.took
 
   pub cut : TakesFrontLast
       → (frames left n count : ℕ) (old now later : Option (List ℕ)) (state : SequentialState)
@@ -197,7 +237,7 @@ module _ (ticks_law : TicksGoOn) (state_law : StateGoesOn) (version : ℕ) (song
       → TakesFront old later (sound_bytes (sound_from version song frames rate first))
   unfolding sound_from
   cut front frames left n count old now later state u some many least part =
-      let rest = u.rest in let long = u.long in let slow = u.slow in
+      let p = u.so_far in let rest = p.rest in let long = p.long in let slow = p.slow in
       let sound = (next state).sound in
       let others = frames - (u.ticks + 1) in
       let tail = sound_after version song rate (after_ticks version song rate first (u.ticks + 1)) others in
@@ -208,7 +248,7 @@ module _ (ticks_law : TicksGoOn) (state_law : StateGoesOn) (version : ℕ) (song
       let gap : 2 * frames - length (T u.ticks) ≡ 2 * left = omega (arith, long, rest) in
       let all : T frames ≡ T u.ticks ++ (sound ++ tail) =
       ap T (let e : frames ≡ (u.ticks + 1) + others = omega (arith, rest, slow) in e) ∙ sound_then (u.ticks + 1) others
-      ∙ ap (λ (l : List ℤ). l ++ tail) (sound_next u.ticks state u.at) ∙ append_assoc (T u.ticks) sound tail in
+      ∙ ap (λ (l : List ℤ). l ++ tail) (sound_next u.ticks state p.at) ∙ append_assoc (T u.ticks) sound tail in
       let split : sound ++ tail ≡ piece ++ left_over =
       ap (λ (l : List ℤ). l ++ tail) (sym (take-append-drop (2 * count) sound))
       ∙ append_assoc piece (drop (2 * count) sound) tail in
@@ -223,7 +263,7 @@ module _ (ticks_law : TicksGoOn) (state_law : StateGoesOn) (version : ℕ) (song
       ap sound_bytes whole ∙ sound_bytes-append (T u.ticks) (piece ++ q)
       ∙ ap (λ (l : List ℕ). sound_bytes (T u.ticks) ++ l) (sound_bytes-append piece q) in
       front old now later (sound_bytes (take (2 * frames) (T frames))) (sound_bytes piece) (sound_bytes q)
-      (record { front = sound_bytes (T u.ticks); whole = bytes; taken = so_far frames left old now state u some }) part
+      (record { front = sound_bytes (T u.ticks); whole = bytes; taken = written frames left old now state u some }) part
 
 -- ---- the numbers of a tick
 

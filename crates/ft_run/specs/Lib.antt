@@ -1,5 +1,6 @@
 pub mod Codes
 pub mod Commands
+pub mod Measure
 pub mod Run
 pub mod Songs
 pub mod Statuses

@@ -7,6 +7,7 @@ use Rattle.ft_types.specs.Blocks.{blocks_of}
 use Rattle.ft_format.specs.Canon.{canon}
 use Rattle.ft_format.specs.Spelling.{Spells}
 use Rattle.ft_replay.specs.Replay.{sound_of_song}
+use Rattle.ft_run.specs.Measure.{peak_of_song, ticks_of_song}
 use Rattle.ft_out.specs.Wav.{wav_bytes}
 use Rattle.ft_xmwrite.specs.Generate.{generated}
 use Rattle.ft_words.specs.declared.answer.Step.{Step}
@@ -37,15 +38,27 @@ pub record IsCopy (held : Option (List ℕ)) (bytes : List ℕ) : Type 0 where
   pub told : IfSome held (λ file. Spells file song)
   pub written : bytes ≡ canon song
 
--- a line of three numbers
-abbrev pub line_of : ℕ → ℕ → ℕ → List ℕ
-line_of number bytes blocks =
+-- a line of five numbers
+abbrev pub line_of : ℕ → ℕ → ℕ → ℕ → ℕ → List ℕ
+line_of number bytes blocks ticks peak =
     codes "gen " ++ (decimal number ++ (codes " bytes " ++ (decimal bytes
-    ++ (codes " blocks " ++ (decimal blocks ++ codes "\n")))))
+    ++ (codes " blocks " ++ (decimal blocks ++ (codes " ticks " ++ (decimal ticks
+    ++ (codes " peak " ++ (decimal peak ++ codes "\n")))))))))
 
--- the line of a generated song: its number, its bytes and its blocks
-unfoldable pub gen_line : ℕ → List ℕ
-gen_line number = line_of number (length (canon (generated number))) (blocks_of (generated number))
+-- a generated song is played for 10 seconds, at 44,100 frames a second
+abbrev pub measured_frames : ℕ
+measured_frames = 441000
+
+-- the line of a song: its number, its bytes and its blocks; how many ticks it takes, and how loud
+-- it is
+unfoldable pub line_of_song : ℕ → Module → List ℕ
+line_of_song number song =
+    line_of number (length (canon song)) (blocks_of song)
+    (ticks_of_song song measured_frames 44100) (peak_of_song song measured_frames 44100)
+
+-- and of a generated one
+abbrev pub gen_line : ℕ → List ℕ
+gen_line number = line_of_song number (generated number)
 
 -- what is written of the song that the source held
 abbrev pub IsWritten : Asked → Option (List ℕ) → List ℕ → Type 0

@@ -1,20 +1,27 @@
-//! `gen`: a generated song, and a line that says how large it is.
+//! `gen`: a generated song, and a line that says how large and how loud it is.
 
-ghost use Rattle.std.specs.Prelude.{◌≡◌, ◌≢◌, ◌⊎◌, IfOk, string_bytes};
+ghost use Rattle.std.specs.Prelude.{◌≡◌, ◌≢◌, ◌⊎◌, IfOk, string_bytes, length};
 ghost use Rattle.std.specs.Io.KnownBytes.{Appends};
 ghost use Rattle.ft_types.specs.Valid.{IsValid};
 ghost use Rattle.ft_format.specs.Canon.{canon};
 ghost use Rattle.ft_outer.specs.Pieces.{TakesFront};
 ghost use Rattle.ft_xmwrite.specs.Generate.{generated};
-ghost use Rattle.ft_run.specs.Run.{line_of, gen_line};
+ghost use Rattle.ft_run.specs.Run.{line_of, line_of_song, gen_line};
 ghost use Rattle.ft_run.specs.Statuses.{IsCounted, IsOfGen};
 
+use crate::measure::measured;
 use crate::status::Status;
 use ft_outer::{Sink, put_all};
-use ft_types::{NoMemory, blocks};
+use ft_types::{Module, NoMemory, blocks};
 use ft_xmread::read_xm;
 use ft_xmwrite::{generate, write_xm};
 use std::alloc::Global;
+
+/// The rate at which a generated song is played, in frames a second.
+const MEASURED_RATE: u32 = 44_100;
+
+/// How long it is played, in seconds.
+const MEASURED_SECONDS: u32 = 10;
 
 /// The canonical bytes of the generated song of a number.
 fn generated_bytes(alloc: Global, number: u32) -> Result<Vec<u8>, NoMemory>
@@ -25,15 +32,50 @@ fn generated_bytes(alloc: Global, number: u32) -> Result<Vec<u8>, NoMemory>
     write_xm(alloc, &song)
 }
 
+/// What is told of a song: its bytes and its blocks, how many ticks it takes, and how loud it is.
+#[derive(Clone, Copy)]
+struct Numbers {
+    bytes: usize,
+    blocks: u32,
+    ticks: u32,
+    peak: u16,
+}
+
 /// The line of a song with these numbers.
-fn line_of(alloc: Global, number: u32, bytes: usize, blocks: u32) -> Result<String, NoMemory>
-    ensures { IfOk result (λ line. string_bytes line ≡ line_of number bytes blocks) }
+fn line_of(alloc: Global, number: u32, told: Numbers) -> Result<String, NoMemory>
+    ensures { IfOk result (λ line. string_bytes line
+        ≡ line_of number told.bytes told.blocks told.ticks told.peak) }
 {
-    Ok(format!(in alloc; "gen {number} bytes {bytes} blocks {blocks}\n")?)
+    let Numbers {
+        bytes,
+        blocks,
+        ticks,
+        peak,
+    } = told;
+    Ok(format!(in alloc; "gen {number} bytes {bytes} blocks {blocks} ticks {ticks} peak {peak}\n")?)
+}
+
+/// The line of a song, which is played for that, whose canonical bytes are so many.
+#[tactic(auto, unfolding(crate::specs::Run::line_of_song))]
+fn line_of_song(alloc: Global, number: u32, song: &Module, bytes: usize) -> Result<String, NoMemory>
+    requires valid { IsValid song.now }
+    requires bytes { bytes ≡ length (canon song.now) }
+    ensures { IfOk result (λ line. string_bytes line ≡ line_of_song number song.now) }
+{
+    let played = measured(song, MEASURED_RATE, MEASURED_RATE * MEASURED_SECONDS);
+    line_of(
+        alloc,
+        number,
+        Numbers {
+            bytes,
+            blocks: blocks(song),
+            ticks: played.ticks,
+            peak: played.peak,
+        },
+    )
 }
 
 /// What is said of a generated song, once its bytes were read back.
-#[tactic(auto, unfolding(crate::specs::Run::gen_line))]
 fn line_of_bytes(alloc: Global, number: u32, bytes: &[u8]) -> Result<String, NoMemory>
     requires written { bytes.now ≡ canon (generated number) }
     requires valid { IsValid (generated number) }
@@ -42,10 +84,11 @@ fn line_of_bytes(alloc: Global, number: u32, bytes: &[u8]) -> Result<String, NoM
     let Ok(song) = read_xm(alloc, bytes) else {
         return Err(NoMemory);
     };
-    line_of(alloc, number, bytes.len(), blocks(&song))
+    line_of_song(alloc, number, &song, bytes.len())
 }
 
-/// Writes the generated song of a number, and then a line that says how large it is.
+/// Writes the generated song of a number, and then a line that says how large and how
+/// loud it is.
 pub fn generate_song<W: Sink, L: Sink>(
     alloc: Global,
     number: u32,

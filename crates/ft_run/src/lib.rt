@@ -6,6 +6,7 @@
 
 mod copying;
 mod generating;
+mod measure;
 mod play;
 mod run;
 mod song;

@@ -21,7 +21,7 @@ use ft_types::{Module, ModuleView, SongView};
 use ft_words::Step;
 
 /// Room for the numbers of the longest tick: 3,750 frames, left and right, and a frame more.
-const TICK_NUMBERS: usize = 7_502;
+pub const TICK_NUMBERS: usize = 7_502;
 
 /// Writes so many frames of a song from its state on, tick by tick; the last tick is cut. Whatever
 /// stands behind the view, it is the replay of the version that is shown.
