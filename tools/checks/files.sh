@@ -96,7 +96,7 @@ absent out.wav
 expect 3 'xmstudio: song refused: fault 1 0' copy other.xm out.wav
 absent out.wav
 expect 5 'xmstudio: output could not be written' copy "$silence" /dev/full
-[ "$("$here/xmstudio" gen 7 seven.xm)" = 'gen 7 bytes 571238 blocks 425' ] || { echo "gen 7 has another line"; failed=1; }
+[ "$("$here/xmstudio" gen 7 seven.xm)" = 'gen 7 bytes 571238 blocks 425 ticks 500 peak 26334' ] || { echo "gen 7 has another line"; failed=1; }
 [ "$(stat -c %s seven.xm)" = 571238 ] || { echo "gen 7 has other bytes"; failed=1; }
 expect 0 '' step seven.xm out.wav out.ledger --rate=8000 --seconds=1
 wav 32044
