@@ -1,2 +1,5 @@
 mod Worked
 mod Lines
+pub mod Decimals
+pub mod FrameWords
+pub mod ReadingLaws
