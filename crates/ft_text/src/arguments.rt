@@ -1,5 +1,6 @@
 //! Arguments of edits, each the next word of a line.
 
+ghost use Rattle.std.specs.Prelude.{◌≤◌, length, IfOk};
 ghost use Rattle.ft_text.specs.Answers.{Reads};
 ghost use Rattle.ft_text.specs.Edits.{u8, u16, u32, i8, i16, name_20, name_22, wide_frames};
 
@@ -98,7 +99,8 @@ impl<'a> Cursor<'a> {
     /// 1 to 256 frames.
     #[tactic(auto, unfolding(crate::specs::Edits::wide_frames))]
     pub fn frames(&mut self, alloc: Global) -> Result<Frames, LineFault>
-        ensures { Reads (λ frames. frames) result self.new (wide_frames self.old) }
+        ensures value { Reads (λ frames. frames) result self.new (wide_frames self.old) }
+        ensures few { IfOk result (λ frames. (1 ≤ length frames) × (length frames ≤ 256)) }
     {
         let word = self.word()?;
         let Some(frames) = frames(alloc, word.bytes)? else {

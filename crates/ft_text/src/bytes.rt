@@ -1,6 +1,6 @@
 //! Names and frames of words.
 
-ghost use Rattle.std.specs.Prelude.{◌≡◌, ◌≤◌, ◌<◌, length, IfOk, option_map};
+ghost use Rattle.std.specs.Prelude.{◌≡◌, ◌≤◌, ◌<◌, length, IfOk, IfSome, option_map};
 ghost use Rattle.ft_text.specs.Values.{bytes_of, name_of, doubles, frames_of};
 
 use ft_types::{Frames, NoMemory};
@@ -58,7 +58,8 @@ fn frames_in(alloc: Global, bytes: &[u8]) -> Result<Option<Vec<i16>>, NoMemory>
 
 /// 1 to 256 frames, in four hexadecimal digits each, the high one first.
 pub fn frames(alloc: Global, word: &[u8]) -> Result<Option<Frames>, NoMemory>
-    ensures { IfOk result (λ o. o ≡ frames_of word.now) }
+    ensures value { IfOk result (λ o. o ≡ frames_of word.now) }
+    ensures few { IfOk result (λ o. IfSome o (λ f. (1 ≤ length f) × (length f ≤ 256))) }
 {
     let Some(bytes) = decoded(alloc, word)? else {
         return Ok(None);

@@ -1,5 +1,7 @@
 //! Edits of instruments, read behind their names.
 
+ghost use Rattle.std.specs.Prelude.{IfOk};
+ghost use Rattle.ft_types.specs.Edits.{IsGivable};
 ghost use Rattle.ft_text.specs.Answers.{Reads};
 ghost use Rattle.ft_text.specs.Edits.{clearins_reading, insname_reading, map_reading, env_reading, point_reading, vib_reading, fade_reading};
 
@@ -11,7 +13,8 @@ use std::alloc::Global;
 /// `clearins I`.
 #[tactic(auto, unfolding(crate::specs::Edits::clearins_reading))]
 pub fn clearins(line: &mut Cursor) -> Result<Edit, LineFault>
-    ensures { Reads (λ edit. edit) result line.new (clearins_reading line.old) }
+    ensures value { Reads (λ edit. edit) result line.new (clearins_reading line.old) }
+    ensures givable { IfOk result IsGivable }
 {
     let i = line.u8()?;
     Ok(Edit::Clearins { i })
@@ -20,7 +23,8 @@ pub fn clearins(line: &mut Cursor) -> Result<Edit, LineFault>
 /// `insname I HEX`.
 #[tactic(auto, unfolding(crate::specs::Edits::insname_reading))]
 pub fn insname(alloc: Global, line: &mut Cursor) -> Result<Edit, LineFault>
-    ensures { Reads (λ edit. edit) result line.new (insname_reading line.old) }
+    ensures value { Reads (λ edit. edit) result line.new (insname_reading line.old) }
+    ensures givable { IfOk result IsGivable }
 {
     let i = line.u8()?;
     let name = line.name_22(alloc)?;
@@ -30,7 +34,8 @@ pub fn insname(alloc: Global, line: &mut Cursor) -> Result<Edit, LineFault>
 /// `map I N K`.
 #[tactic(auto, unfolding(crate::specs::Edits::map_reading))]
 pub fn map(line: &mut Cursor) -> Result<Edit, LineFault>
-    ensures { Reads (λ edit. edit) result line.new (map_reading line.old) }
+    ensures value { Reads (λ edit. edit) result line.new (map_reading line.old) }
+    ensures givable { IfOk result IsGivable }
 {
     let i = line.u8()?;
     let n = line.u8()?;
@@ -41,7 +46,8 @@ pub fn map(line: &mut Cursor) -> Result<Edit, LineFault>
 /// `env I W COUNT SUS LS LE FLAGS`.
 #[tactic(auto, unfolding(crate::specs::Edits::env_reading))]
 pub fn env(line: &mut Cursor) -> Result<Edit, LineFault>
-    ensures { Reads (λ edit. edit) result line.new (env_reading line.old) }
+    ensures value { Reads (λ edit. edit) result line.new (env_reading line.old) }
+    ensures givable { IfOk result IsGivable }
 {
     let i = line.u8()?;
     let w = line.u8()?;
@@ -64,7 +70,8 @@ pub fn env(line: &mut Cursor) -> Result<Edit, LineFault>
 /// `point I W K X Y`.
 #[tactic(auto, unfolding(crate::specs::Edits::point_reading))]
 pub fn point(line: &mut Cursor) -> Result<Edit, LineFault>
-    ensures { Reads (λ edit. edit) result line.new (point_reading line.old) }
+    ensures value { Reads (λ edit. edit) result line.new (point_reading line.old) }
+    ensures givable { IfOk result IsGivable }
 {
     let i = line.u8()?;
     let w = line.u8()?;
@@ -77,7 +84,8 @@ pub fn point(line: &mut Cursor) -> Result<Edit, LineFault>
 /// `vib I KIND SWEEP DEPTH RATE`.
 #[tactic(auto, unfolding(crate::specs::Edits::vib_reading))]
 pub fn vib(line: &mut Cursor) -> Result<Edit, LineFault>
-    ensures { Reads (λ edit. edit) result line.new (vib_reading line.old) }
+    ensures value { Reads (λ edit. edit) result line.new (vib_reading line.old) }
+    ensures givable { IfOk result IsGivable }
 {
     let i = line.u8()?;
     let kind = line.u8()?;
@@ -96,7 +104,8 @@ pub fn vib(line: &mut Cursor) -> Result<Edit, LineFault>
 /// `fade I N`.
 #[tactic(auto, unfolding(crate::specs::Edits::fade_reading))]
 pub fn fade(line: &mut Cursor) -> Result<Edit, LineFault>
-    ensures { Reads (λ edit. edit) result line.new (fade_reading line.old) }
+    ensures value { Reads (λ edit. edit) result line.new (fade_reading line.old) }
+    ensures givable { IfOk result IsGivable }
 {
     let i = line.u8()?;
     let n = line.u16()?;

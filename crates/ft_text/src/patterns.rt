@@ -1,5 +1,7 @@
 //! Edits of patterns, read behind their names.
 
+ghost use Rattle.std.specs.Prelude.{IfOk};
+ghost use Rattle.ft_types.specs.Edits.{IsGivable};
 ghost use Rattle.ft_text.specs.Answers.{Reads};
 ghost use Rattle.ft_text.specs.Edits.{cell_reading, rows_reading, insrow_reading, delrow_reading, clear_reading, transpose_reading, copy_reading};
 
@@ -10,7 +12,8 @@ use ft_types::Edit;
 /// `cell P R C NOTE INS VOL EFF PAR`.
 #[tactic(auto, unfolding(crate::specs::Edits::cell_reading))]
 pub fn cell(line: &mut Cursor) -> Result<Edit, LineFault>
-    ensures { Reads (λ edit. edit) result line.new (cell_reading line.old) }
+    ensures value { Reads (λ edit. edit) result line.new (cell_reading line.old) }
+    ensures givable { IfOk result IsGivable }
 {
     let p = line.u8()?;
     let r = line.u16()?;
@@ -35,7 +38,8 @@ pub fn cell(line: &mut Cursor) -> Result<Edit, LineFault>
 /// `rows`.
 #[tactic(auto, unfolding(crate::specs::Edits::rows_reading))]
 pub fn rows(line: &mut Cursor) -> Result<Edit, LineFault>
-    ensures { Reads (λ edit. edit) result line.new (rows_reading line.old) }
+    ensures value { Reads (λ edit. edit) result line.new (rows_reading line.old) }
+    ensures givable { IfOk result IsGivable }
 {
     let p = line.u8()?;
     let n = line.u16()?;
@@ -45,7 +49,8 @@ pub fn rows(line: &mut Cursor) -> Result<Edit, LineFault>
 /// `insrow P R`.
 #[tactic(auto, unfolding(crate::specs::Edits::insrow_reading))]
 pub fn insrow(line: &mut Cursor) -> Result<Edit, LineFault>
-    ensures { Reads (λ edit. edit) result line.new (insrow_reading line.old) }
+    ensures value { Reads (λ edit. edit) result line.new (insrow_reading line.old) }
+    ensures givable { IfOk result IsGivable }
 {
     let p = line.u8()?;
     let r = line.u16()?;
@@ -55,7 +60,8 @@ pub fn insrow(line: &mut Cursor) -> Result<Edit, LineFault>
 /// `delrow P R`.
 #[tactic(auto, unfolding(crate::specs::Edits::delrow_reading))]
 pub fn delrow(line: &mut Cursor) -> Result<Edit, LineFault>
-    ensures { Reads (λ edit. edit) result line.new (delrow_reading line.old) }
+    ensures value { Reads (λ edit. edit) result line.new (delrow_reading line.old) }
+    ensures givable { IfOk result IsGivable }
 {
     let p = line.u8()?;
     let r = line.u16()?;
@@ -65,7 +71,8 @@ pub fn delrow(line: &mut Cursor) -> Result<Edit, LineFault>
 /// `clear P R C H W`.
 #[tactic(auto, unfolding(crate::specs::Edits::clear_reading))]
 pub fn clear(line: &mut Cursor) -> Result<Edit, LineFault>
-    ensures { Reads (λ edit. edit) result line.new (clear_reading line.old) }
+    ensures value { Reads (λ edit. edit) result line.new (clear_reading line.old) }
+    ensures givable { IfOk result IsGivable }
 {
     let p = line.u8()?;
     let r = line.u16()?;
@@ -78,7 +85,8 @@ pub fn clear(line: &mut Cursor) -> Result<Edit, LineFault>
 /// `transpose P R C H W D`.
 #[tactic(auto, unfolding(crate::specs::Edits::transpose_reading))]
 pub fn transpose(line: &mut Cursor) -> Result<Edit, LineFault>
-    ensures { Reads (λ edit. edit) result line.new (transpose_reading line.old) }
+    ensures value { Reads (λ edit. edit) result line.new (transpose_reading line.old) }
+    ensures givable { IfOk result IsGivable }
 {
     let p = line.u8()?;
     let r = line.u16()?;
@@ -92,7 +100,8 @@ pub fn transpose(line: &mut Cursor) -> Result<Edit, LineFault>
 /// `copy P R C H W Q R2 C2`.
 #[tactic(auto, unfolding(crate::specs::Edits::copy_reading))]
 pub fn copy(line: &mut Cursor) -> Result<Edit, LineFault>
-    ensures { Reads (λ edit. edit) result line.new (copy_reading line.old) }
+    ensures value { Reads (λ edit. edit) result line.new (copy_reading line.old) }
+    ensures givable { IfOk result IsGivable }
 {
     let p = line.u8()?;
     let r = line.u16()?;

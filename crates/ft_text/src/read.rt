@@ -1,6 +1,8 @@
 //! Lines of scripts, read.
 
-ghost use Rattle.std.specs.Prelude.{◌≡◌, ◌<◌, [], ◌∷◌, ◌++◌, length, OnOk, IfErr};
+ghost use Rattle.std.specs.Prelude.{◌≡◌, ◌<◌, [], ◌∷◌, ◌++◌, length, OnOk, IfOk, IfErr, IfSome};
+ghost use Rattle.std.specs.List.{All};
+ghost use Rattle.ft_types.specs.Edits.{IsGivable};
 ghost use Rattle.ft_text.specs.Answers.{Reads, Tells};
 ghost use Rattle.ft_text.specs.Edits.{edit_reading};
 ghost use Rattle.ft_text.specs.Kinds.{reading_of};
@@ -17,7 +19,8 @@ use std::alloc::Global;
 /// The arguments of an edit.
 #[tactic(auto, unfolding(crate::specs::Edits::delpat_reading, crate::specs::Edits::newins_reading))]
 fn edit_of(alloc: Global, line: &mut Cursor, kind: Kind) -> Result<Edit, LineFault>
-    ensures { Reads (λ edit. edit) result line.new (reading_of kind line.old) }
+    ensures value { Reads (λ edit. edit) result line.new (reading_of kind line.old) }
+    ensures givable { IfOk result IsGivable }
 {
     match kind {
         Kind::Cell => patterns::cell(line),
@@ -60,7 +63,8 @@ fn edit_of(alloc: Global, line: &mut Cursor, kind: Kind) -> Result<Edit, LineFau
 /// An edit: its name, and then its arguments.
 #[tactic(auto, unfolding(crate::specs::Edits::edit_reading))]
 fn edit(alloc: Global, line: &mut Cursor) -> Result<Edit, LineFault>
-    ensures { Reads (λ edit. edit) result line.new (edit_reading line.old) }
+    ensures value { Reads (λ edit. edit) result line.new (edit_reading line.old) }
+    ensures givable { IfOk result IsGivable }
 {
     let word = line.word()?;
     let Some(kind) = kind_of(word.bytes) else {
@@ -84,8 +88,9 @@ fn time(line: &mut Cursor) -> Result<Option<u32>, LineFault>
 /// A time or none, an edit, and nothing more.
 #[tactic(auto, unfolding(crate::specs::Lines::timed_reading, crate::specs::Lines::edits_reading))]
 fn timed_edit(alloc: Global, line: &mut Cursor) -> Result<Timed, LineFault>
-    ensures { Reads (λ timed. (timed.at, timed.edit ∷ [])) result line.new
+    ensures value { Reads (λ timed. (timed.at, timed.edit ∷ [])) result line.new
         (timed_reading 0 line.old) }
+    ensures givable { IfOk result (λ timed. IsGivable timed.edit) }
 {
     let at = time(line)?;
     let edit = edit(alloc, line)?;
@@ -109,7 +114,8 @@ fn push(batch: &mut Batch, edit: Edit) -> Result<(), LineFault>
 /// Another edit, behind a `;`.
 #[tactic(auto, unfolding(crate::specs::Lines::another_reading))]
 fn another(alloc: Global, line: &mut Cursor) -> Result<Edit, LineFault>
-    ensures { Reads (λ edit. edit) result line.new (another_reading line.old) }
+    ensures value { Reads (λ edit. edit) result line.new (another_reading line.old) }
+    ensures givable { IfOk result IsGivable }
 {
     line.this(b";")?;
     edit(alloc, line)
@@ -117,9 +123,11 @@ fn another(alloc: Global, line: &mut Cursor) -> Result<Edit, LineFault>
 
 /// Puts the other edits of a line behind the first, each behind a `;`.
 fn others(alloc: Global, line: &mut Cursor, batch: &mut Batch) -> Result<(), LineFault>
-    requires { length batch.old ≡ 1 }
-    ensures { Reads (λ _. batch.new) result line.new
+    requires one { length batch.old ≡ 1 }
+    requires given { All IsGivable batch.old }
+    ensures value { Reads (λ _. batch.new) result line.new
         (edits_behind batch.old (others_reading 15) line.old) }
+    ensures givable { OnOk result (All IsGivable batch.new) }
 {
     for _ in 1..MOST_EDITS {
         if line.is_over() {
@@ -134,7 +142,8 @@ fn others(alloc: Global, line: &mut Cursor, batch: &mut Batch) -> Result<(), Lin
 /// An edit, and at most 15 more.
 #[tactic(auto, unfolding(crate::specs::Lines::edits_reading))]
 fn batch(alloc: Global, line: &mut Cursor) -> Result<Batch, LineFault>
-    ensures { Reads (λ batch. batch) result line.new (edits_reading 15 line.old) }
+    ensures value { Reads (λ batch. batch) result line.new (edits_reading 15 line.old) }
+    ensures givable { IfOk result (All IsGivable) }
 {
     let first = edit(alloc, line)?;
     let mut batch = Batch::one(alloc, first)?;
@@ -145,7 +154,8 @@ fn batch(alloc: Global, line: &mut Cursor) -> Result<Batch, LineFault>
 /// A time or none, and edits.
 #[tactic(auto, unfolding(crate::specs::Lines::timed_reading))]
 fn timed_batch(alloc: Global, line: &mut Cursor) -> Result<TimedBatch, LineFault>
-    ensures { Reads (λ timed. (timed.at, timed.batch)) result line.new (timed_reading 15 line.old) }
+    ensures value { Reads (λ timed. (timed.at, timed.batch)) result line.new (timed_reading 15 line.old) }
+    ensures givable { IfOk result (λ timed. All IsGivable timed.batch) }
 {
     let at = time(line)?;
     let batch = batch(alloc, line)?;
@@ -175,7 +185,8 @@ fn begin(line: &[u8]) -> Result<Option<Cursor>, LineFault>
 /// `Bad` comes exactly where the line is none of a script, with the place that `docs/TEXTS.md`
 /// gives; the other fault is want of memory.
 pub fn read_edit(alloc: Global, line: &[u8]) -> Result<Option<Timed>, LineFault>
-    ensures { Tells (λ timed. (timed.at, timed.edit ∷ [])) result (line_of 0 line.now) }
+    ensures value { Tells (λ timed. (timed.at, timed.edit ∷ [])) result (line_of 0 line.now) }
+    ensures givable { IfOk result (λ timed. IfSome timed (λ t. IsGivable t.edit)) }
 {
     let Some(mut cursor) = begin(line)? else {
         return Ok(None);
@@ -190,7 +201,8 @@ pub fn read_edit(alloc: Global, line: &[u8]) -> Result<Option<Timed>, LineFault>
 /// `Bad` comes exactly where the line is none of a script, with the place that `docs/TEXTS.md`
 /// gives; the other fault is want of memory.
 pub fn read_batch(alloc: Global, line: &[u8]) -> Result<Option<TimedBatch>, LineFault>
-    ensures { Tells (λ timed. (timed.at, timed.batch)) result (line_of 15 line.now) }
+    ensures value { Tells (λ timed. (timed.at, timed.batch)) result (line_of 15 line.now) }
+    ensures givable { IfOk result (λ timed. IfSome timed (λ t. All IsGivable t.batch)) }
 {
     let Some(mut cursor) = begin(line)? else {
         return Ok(None);

@@ -1,5 +1,7 @@
 //! Edits of samples and their frames, read behind their names.
 
+ghost use Rattle.std.specs.Prelude.{IfOk};
+ghost use Rattle.ft_types.specs.Edits.{IsGivable};
 ghost use Rattle.ft_text.specs.Answers.{Reads};
 ghost use Rattle.ft_text.specs.Edits.{newsmp_reading, delsmp_reading, smpname_reading, smp_reading, loop_reading, cut_reading, paste_reading, reverse_reading, scale_reading, bits_reading};
 
@@ -11,7 +13,8 @@ use std::alloc::Global;
 /// `newsmp I`.
 #[tactic(auto, unfolding(crate::specs::Edits::newsmp_reading))]
 pub fn newsmp(line: &mut Cursor) -> Result<Edit, LineFault>
-    ensures { Reads (λ edit. edit) result line.new (newsmp_reading line.old) }
+    ensures value { Reads (λ edit. edit) result line.new (newsmp_reading line.old) }
+    ensures givable { IfOk result IsGivable }
 {
     let i = line.u8()?;
     Ok(Edit::Newsmp { i })
@@ -20,7 +23,8 @@ pub fn newsmp(line: &mut Cursor) -> Result<Edit, LineFault>
 /// `delsmp I`.
 #[tactic(auto, unfolding(crate::specs::Edits::delsmp_reading))]
 pub fn delsmp(line: &mut Cursor) -> Result<Edit, LineFault>
-    ensures { Reads (λ edit. edit) result line.new (delsmp_reading line.old) }
+    ensures value { Reads (λ edit. edit) result line.new (delsmp_reading line.old) }
+    ensures givable { IfOk result IsGivable }
 {
     let i = line.u8()?;
     Ok(Edit::Delsmp { i })
@@ -29,7 +33,8 @@ pub fn delsmp(line: &mut Cursor) -> Result<Edit, LineFault>
 /// `smpname I S HEX`.
 #[tactic(auto, unfolding(crate::specs::Edits::smpname_reading))]
 pub fn smpname(alloc: Global, line: &mut Cursor) -> Result<Edit, LineFault>
-    ensures { Reads (λ edit. edit) result line.new (smpname_reading line.old) }
+    ensures value { Reads (λ edit. edit) result line.new (smpname_reading line.old) }
+    ensures givable { IfOk result IsGivable }
 {
     let i = line.u8()?;
     let s = line.u8()?;
@@ -40,7 +45,8 @@ pub fn smpname(alloc: Global, line: &mut Cursor) -> Result<Edit, LineFault>
 /// `smp I S VOL FINE REL PAN`.
 #[tactic(auto, unfolding(crate::specs::Edits::smp_reading))]
 pub fn smp(line: &mut Cursor) -> Result<Edit, LineFault>
-    ensures { Reads (λ edit. edit) result line.new (smp_reading line.old) }
+    ensures value { Reads (λ edit. edit) result line.new (smp_reading line.old) }
+    ensures givable { IfOk result IsGivable }
 {
     let i = line.u8()?;
     let s = line.u8()?;
@@ -61,7 +67,8 @@ pub fn smp(line: &mut Cursor) -> Result<Edit, LineFault>
 /// `loop I S KIND START LEN`.
 #[tactic(auto, unfolding(crate::specs::Edits::loop_reading))]
 pub fn loop_(line: &mut Cursor) -> Result<Edit, LineFault>
-    ensures { Reads (λ edit. edit) result line.new (loop_reading line.old) }
+    ensures value { Reads (λ edit. edit) result line.new (loop_reading line.old) }
+    ensures givable { IfOk result IsGivable }
 {
     let i = line.u8()?;
     let s = line.u8()?;
@@ -80,7 +87,8 @@ pub fn loop_(line: &mut Cursor) -> Result<Edit, LineFault>
 /// `cut I S FROM TO`.
 #[tactic(auto, unfolding(crate::specs::Edits::cut_reading))]
 pub fn cut(line: &mut Cursor) -> Result<Edit, LineFault>
-    ensures { Reads (λ edit. edit) result line.new (cut_reading line.old) }
+    ensures value { Reads (λ edit. edit) result line.new (cut_reading line.old) }
+    ensures givable { IfOk result IsGivable }
 {
     let i = line.u8()?;
     let s = line.u8()?;
@@ -92,7 +100,8 @@ pub fn cut(line: &mut Cursor) -> Result<Edit, LineFault>
 /// `paste I S AT HEX`.
 #[tactic(auto, unfolding(crate::specs::Edits::paste_reading))]
 pub fn paste(alloc: Global, line: &mut Cursor) -> Result<Edit, LineFault>
-    ensures { Reads (λ edit. edit) result line.new (paste_reading line.old) }
+    ensures value { Reads (λ edit. edit) result line.new (paste_reading line.old) }
+    ensures givable { IfOk result IsGivable }
 {
     let i = line.u8()?;
     let s = line.u8()?;
@@ -104,7 +113,8 @@ pub fn paste(alloc: Global, line: &mut Cursor) -> Result<Edit, LineFault>
 /// `reverse I S FROM TO`.
 #[tactic(auto, unfolding(crate::specs::Edits::reverse_reading))]
 pub fn reverse(line: &mut Cursor) -> Result<Edit, LineFault>
-    ensures { Reads (λ edit. edit) result line.new (reverse_reading line.old) }
+    ensures value { Reads (λ edit. edit) result line.new (reverse_reading line.old) }
+    ensures givable { IfOk result IsGivable }
 {
     let i = line.u8()?;
     let s = line.u8()?;
@@ -116,7 +126,8 @@ pub fn reverse(line: &mut Cursor) -> Result<Edit, LineFault>
 /// `scale I S FROM TO N D`.
 #[tactic(auto, unfolding(crate::specs::Edits::scale_reading))]
 pub fn scale(line: &mut Cursor) -> Result<Edit, LineFault>
-    ensures { Reads (λ edit. edit) result line.new (scale_reading line.old) }
+    ensures value { Reads (λ edit. edit) result line.new (scale_reading line.old) }
+    ensures givable { IfOk result IsGivable }
 {
     let i = line.u8()?;
     let s = line.u8()?;
@@ -137,7 +148,8 @@ pub fn scale(line: &mut Cursor) -> Result<Edit, LineFault>
 /// `bits I S B`.
 #[tactic(auto, unfolding(crate::specs::Edits::bits_reading))]
 pub fn bits(line: &mut Cursor) -> Result<Edit, LineFault>
-    ensures { Reads (λ edit. edit) result line.new (bits_reading line.old) }
+    ensures value { Reads (λ edit. edit) result line.new (bits_reading line.old) }
+    ensures givable { IfOk result IsGivable }
 {
     let i = line.u8()?;
     let s = line.u8()?;
