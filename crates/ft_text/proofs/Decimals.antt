@@ -11,7 +11,7 @@ use Rattle.std.proofs.lemmas.Int.Digits.{digits_value_more, digits_more}
 use Rattle.std.proofs.lemmas.Fmt.{decimal-digits_value, digits_decimal, first_decimal, decimal_nonempty}
 use Rattle.ft_text.specs.Values.{number_of, signed_of, is_within}
 
-abbrev own : IsNumeralModel (AllDigits 10) (digits_value 10)
+abbrev pub own : IsNumeralModel (AllDigits 10) (digits_value 10)
 own = numerals_by_value (AllDigits 10) tells_digits
 
 -- digits without leading zeros are the number that they say

@@ -3,3 +3,7 @@ mod Lines
 pub mod Decimals
 pub mod FrameWords
 pub mod ReadingLaws
+pub mod WordsBack
+pub mod ValuesBack
+pub mod EditsBack
+pub mod LinesBack

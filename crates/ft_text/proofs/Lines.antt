@@ -1,5 +1,5 @@
 -- Lines, read.
-use Rattle.std.proofs.Common.{◌≡◌, [], ◌∷◌, replicate, codes, Some, None, Ok, Err, pos, negsuc, refl}
+use Rattle.std.proofs.Common.{◌≡◌, [], ◌∷◌, ◌++◌, replicate, codes, Some, None, Ok, Err, pos, negsuc, refl}
 use Rattle.std.specs.Fmt.{digits}
 use Rattle.hex.specs.Hex.{encode_with, decode_pairs}
 use Rattle.ft_types.specs.declared.edit.Edit.TheVariants as edits
@@ -163,14 +163,16 @@ unfolding beginning timed_reading time_reading edits_reading others_reading anot
 halved = refl
 
 sixteenth_separator : line_of 15
-    (codes "delpat ; delpat ; delpat ; delpat ; delpat ; delpat ; delpat ; delpat ; delpat ; delpat ; delpat ; delpat ; delpat ; delpat ; delpat ; delpat ; delpat")
+    (codes "delpat ; delpat ; delpat ; delpat ; delpat ; delpat ; delpat ; delpat ; "
+    ++ codes "delpat ; delpat ; delpat ; delpat ; delpat ; delpat ; delpat ; delpat ; delpat")
     ≡ Err 142
 unfolding beginning timed_reading time_reading edits_reading others_reading another_reading
     edit_reading readings delpat_reading next_word spaces word_length digits encode_with decode_pairs
 sixteenth_separator = refl
 
 sixteen_edits : line_of 15
-    (codes "delpat ; delpat ; delpat ; delpat ; delpat ; delpat ; delpat ; delpat ; delpat ; delpat ; delpat ; delpat ; delpat ; delpat ; delpat ; delpat")
+    (codes "delpat ; delpat ; delpat ; delpat ; delpat ; delpat ; delpat ; delpat ; "
+    ++ codes "delpat ; delpat ; delpat ; delpat ; delpat ; delpat ; delpat ; delpat")
     ≡ Ok (Some (None, replicate 16 edits.Delpat))
 unfolding beginning timed_reading time_reading edits_reading others_reading another_reading
     edit_reading readings delpat_reading next_word spaces word_length digits encode_with decode_pairs

@@ -27,13 +27,15 @@ unfolding others_reading
 none_follows front more p over = rw over (ap (λ edits. Ok (edits, p)) (append-nil front))
 
 pub edit_is_wrong : (fault : LineFault) (front : List Edit) (more : ℕ) (p : Place)
-    (whole : Result (List Edit × Place) ℕ) → is_over p ≡ false → Fails fault (another_reading p) → edits_behind front (others_reading (suc more)) p ≡ whole → Fails fault whole
+    (whole : Result (List Edit × Place) ℕ) → is_over p ≡ false → Fails fault (another_reading p)
+    → edits_behind front (others_reading (suc more)) p ≡ whole → Fails fault whole
 unfolding others_reading
 edit_is_wrong (Bad at) front more p whole over wrong is = sym is ∙ rw (over, wrong) refl
 edit_is_wrong NoMemory front more p whole over wrong is = tt
 
 pub another_follows : (front : List Edit) (more : ℕ) (p q : Place) (edit : Edit) → is_over p ≡ false
-    → another_reading p ≡ Ok (edit, q) → edits_behind (front ++ edit ∷ []) (others_reading more) q ≡ edits_behind front (others_reading (suc more)) p
+    → another_reading p ≡ Ok (edit, q)
+    → edits_behind (front ++ edit ∷ []) (others_reading more) q ≡ edits_behind front (others_reading (suc more)) p
 unfolding others_reading
 another_follows front more p q edit over read = rw (over, read) (behind_one_more front edit (others_reading more q))
 

@@ -6,3 +6,4 @@ pub mod Edits
 pub mod Lines
 pub mod Answers
 pub mod Kinds
+pub mod ReadBack

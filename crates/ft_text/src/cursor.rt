@@ -13,8 +13,8 @@ use std::marker::Model;
 /// How many bytes a line has at most.
 pub const MOST_BYTES: usize = 4096;
 
-/// Reads a line word by word. Contracts see its place: how many bytes stand before it, and those that
-/// are left.
+/// Reads a line word by word. Contracts see its place: how many bytes stand before it, and those
+/// that are left.
 #[derive(Drop)]
 pub struct Cursor<'a> {
     at: u16,

@@ -12,6 +12,7 @@ mod cursor;
 mod fault;
 mod instruments;
 mod kind;
+mod laws;
 mod numbers;
 mod patterns;
 mod print;
@@ -22,6 +23,7 @@ mod timed;
 mod words;
 
 pub use fault::LineFault;
+pub use laws::{printed_batches_are_read, printed_edits_are_read, texts_differ};
 pub use print::{print_batch, print_edit};
 pub use read::{read_batch, read_edit};
 pub use timed::{Timed, TimedBatch};

@@ -154,7 +154,8 @@ fn batch(alloc: Global, line: &mut Cursor) -> Result<Batch, LineFault>
 /// A time or none, and edits.
 #[tactic(auto, unfolding(crate::specs::Lines::timed_reading))]
 fn timed_batch(alloc: Global, line: &mut Cursor) -> Result<TimedBatch, LineFault>
-    ensures value { Reads (λ timed. (timed.at, timed.batch)) result line.new (timed_reading 15 line.old) }
+    ensures value { Reads (λ timed. (timed.at, timed.batch)) result line.new
+        (timed_reading 15 line.old) }
     ensures givable { IfOk result (λ timed. All IsGivable timed.batch) }
 {
     let at = time(line)?;
