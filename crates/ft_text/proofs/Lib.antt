@@ -7,3 +7,4 @@ pub mod WordsBack
 pub mod ValuesBack
 pub mod EditsBack
 pub mod LinesBack
+pub mod Names

@@ -43,43 +43,65 @@ pub enum Kind {
     Bits,
 }
 
-/// Each name with its edit.
-static KINDS: [(&str, Kind); 34] = [
+/// The names of three letters.
+static THREE: [(&str, Kind); 6] = [
+    ("bpm", Kind::Bpm),
+    ("map", Kind::Map),
+    ("env", Kind::Env),
+    ("vib", Kind::Vib),
+    ("smp", Kind::Smp),
+    ("cut", Kind::Cut),
+];
+
+/// The names of four letters.
+static FOUR: [(&str, Kind); 6] = [
     ("cell", Kind::Cell),
     ("rows", Kind::Rows),
+    ("copy", Kind::Copy),
+    ("fade", Kind::Fade),
+    ("loop", Kind::Loop),
+    ("bits", Kind::Bits),
+];
+
+/// The names of five letters.
+static FIVE: [(&str, Kind); 7] = [
+    ("clear", Kind::Clear),
+    ("order", Kind::Order),
+    ("tempo", Kind::Tempo),
+    ("title", Kind::Title),
+    ("point", Kind::Point),
+    ("paste", Kind::Paste),
+    ("scale", Kind::Scale),
+];
+
+/// The names of six letters.
+static SIX: [(&str, Kind); 7] = [
     ("insrow", Kind::Insrow),
     ("delrow", Kind::Delrow),
-    ("clear", Kind::Clear),
-    ("transpose", Kind::Transpose),
-    ("copy", Kind::Copy),
-    ("order", Kind::Order),
-    ("insorder", Kind::Insorder),
-    ("delorder", Kind::Delorder),
-    ("restart", Kind::Restart),
-    ("tempo", Kind::Tempo),
-    ("bpm", Kind::Bpm),
-    ("title", Kind::Title),
     ("newpat", Kind::Newpat),
     ("delpat", Kind::Delpat),
     ("newins", Kind::Newins),
-    ("clearins", Kind::Clearins),
-    ("insname", Kind::Insname),
-    ("map", Kind::Map),
-    ("env", Kind::Env),
-    ("point", Kind::Point),
-    ("vib", Kind::Vib),
-    ("fade", Kind::Fade),
     ("newsmp", Kind::Newsmp),
     ("delsmp", Kind::Delsmp),
-    ("smpname", Kind::Smpname),
-    ("smp", Kind::Smp),
-    ("loop", Kind::Loop),
-    ("cut", Kind::Cut),
-    ("paste", Kind::Paste),
-    ("reverse", Kind::Reverse),
-    ("scale", Kind::Scale),
-    ("bits", Kind::Bits),
 ];
+
+/// The names of seven letters.
+static SEVEN: [(&str, Kind); 4] = [
+    ("restart", Kind::Restart),
+    ("insname", Kind::Insname),
+    ("smpname", Kind::Smpname),
+    ("reverse", Kind::Reverse),
+];
+
+/// The names of eight letters.
+static EIGHT: [(&str, Kind); 3] = [
+    ("insorder", Kind::Insorder),
+    ("delorder", Kind::Delorder),
+    ("clearins", Kind::Clearins),
+];
+
+/// The names of nine letters.
+static NINE: [(&str, Kind); 1] = [("transpose", Kind::Transpose)];
 
 /// The edit of this name in a table.
 fn kind_in(rows: &[(&str, Kind)], name: &[u8]) -> Option<Kind>
@@ -98,5 +120,14 @@ fn kind_in(rows: &[(&str, Kind)], name: &[u8]) -> Option<Kind>
 pub fn kind_of(name: &[u8]) -> Option<Kind>
     ensures { option_map reading_of result ≡ named readings name.now }
 {
-    kind_in(&KINDS, name)
+    match name.len() {
+        3 => kind_in(&THREE, name),
+        4 => kind_in(&FOUR, name),
+        5 => kind_in(&FIVE, name),
+        6 => kind_in(&SIX, name),
+        7 => kind_in(&SEVEN, name),
+        8 => kind_in(&EIGHT, name),
+        9 => kind_in(&NINE, name),
+        _ => None,
+    }
 }
