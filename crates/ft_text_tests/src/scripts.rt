@@ -1,7 +1,7 @@
 //! Lines of scripts.
 
 use crate::kinds::numbers;
-use ft_text::{LineFault, Timed, TimedBatch, read_batch, read_edit};
+use ft_text::{LineFault, Timed, TimedBatch, print_batch, print_edit, read_batch, read_edit};
 use std::alloc::{AllocError, Global};
 use std::test::Fail;
 
@@ -299,5 +299,51 @@ fn pasted(alloc: Global, frames: usize) -> Result<Said, AllocError> {
 fn a_paste_has_at_most_256_frames(rt: HostRuntime) -> Result<(), Fail> {
     assert!(rt; pasted(rt.alloc(), 256)? == Edit([31, 1, 0, 4, 256, -2, 0, 0, 0]));
     assert!(rt; pasted(rt.alloc(), 257)? == Bad(12));
+    Ok(())
+}
+
+/// Lines as edits are printed.
+static TEXTS: [&str; 10] = [
+    "cell 1 2 3 4 5 6 7 8",
+    "delpat",
+    "newpat 64",
+    "transpose 1 2 3 4 5 -128",
+    "title 4d79000000000000000000000000000000000000",
+    "smpname 1 2 000102030405060708090a0b0c0d0e0f101112131415",
+    "env 1 2 3 4 5 6 7",
+    "loop 1 2 3 4000000000 4294967295",
+    "paste 1 0 4 7fff8000",
+    "scale 1 0 0 4 -32768 65535",
+];
+
+/// Whether the edit that a line says is printed as that line.
+fn is_printed_so(alloc: Global, line: &[u8]) -> bool {
+    match read_edit(alloc, line) {
+        Ok(Some(timed)) => match print_edit(alloc, &timed.edit) {
+            Ok(text) => text.as_slice() == line,
+            Err(_) => false,
+        },
+        _ => false,
+    }
+}
+
+/// Whether the batch that a line says is printed as that line.
+fn is_batch_printed_so(alloc: Global, line: &[u8]) -> bool {
+    match read_batch(alloc, line) {
+        Ok(Some(timed)) => match print_batch(alloc, &timed.batch) {
+            Ok(text) => text.as_slice() == line,
+            Err(_) => false,
+        },
+        _ => false,
+    }
+}
+
+#[test]
+fn edits_are_printed_as_they_were_read(rt: HostRuntime) -> Result<(), Fail> {
+    for line in TEXTS.iter() {
+        assert!(rt; is_printed_so(rt.alloc(), line.as_bytes()), "{line}");
+    }
+    assert!(rt; is_batch_printed_so(rt.alloc(), b"tempo 3 ; bpm 140 ; delpat"));
+    assert!(rt; is_batch_printed_so(rt.alloc(), SIXTEEN.as_bytes()));
     Ok(())
 }
