@@ -8,3 +8,4 @@ pub mod ValuesBack
 pub mod EditsBack
 pub mod LinesBack
 pub mod Names
+pub mod Skipped

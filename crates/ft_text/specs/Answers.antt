@@ -21,3 +21,9 @@ abbrev pub Tells : {X Y : Type 0} → (X → Y) → Result (Option X) LineFault
 Tells view (Ok None) said = said ≡ Ok None
 Tells view (Ok (Some x)) said = said ≡ Ok (Some (view x))
 Tells view (Err fault) said = Fails fault said
+
+-- none was answered exactly where this holds
+abbrev pub NoneExactly : {X : Type 0} → Type 0 → Result (Option X) LineFault → Type 0
+NoneExactly P (Ok None) = P
+NoneExactly P (Ok (Some x)) = P → ⊥
+NoneExactly P (Err fault) = P → ⊥

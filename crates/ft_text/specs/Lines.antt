@@ -1,5 +1,6 @@
 -- What a line of a script says.
-use Rattle.std.specs.Prelude.{ℕ, zero, suc, ◌==◌, ◌||◌, Bool, false, List, [], ◌∷◌, ◌++◌, length, nat_lt, bytes_eq, codes, Option, Some, None, Result, Ok, Err, if◌then◌else◌}
+use Rattle.std.specs.Prelude.{◌≡◌, ◌≤◌, ◌⊎◌, IsTrue, ℕ, zero, suc, ◌==◌, ◌||◌, Bool, false, List, [], ◌∷◌, ◌++◌, length, nat_lt, bytes_eq, codes, Option, Some, None, Result, Ok, Err, if◌then◌else◌}
+use Rattle.std.specs.List.{All}
 use Rattle.ft_types.specs.declared.edit.Edit.{Edit}
 use Rattle.ft_text.specs.Reading.{Place, Reading, give, ◌>>=◌, word, is_over, behind_spaces}
 use Rattle.ft_text.specs.Edits.{u32, edit_reading}
@@ -78,6 +79,11 @@ abbrev pub read_from : ℕ → Result (Option Place) ℕ → Result (Option (Opt
 read_from more (Ok None) = Ok None
 read_from more (Ok (Some p)) = value_only (timed_reading more p)
 read_from more (Err at) = Err at
+
+-- a line that says nothing: a comment, or no bytes but spaces
+pub record IsSkipped (line : List ℕ) : Type 0 where
+  pub short : length line ≤ 4096
+  pub quiet : IsTrue (begins_with_hash line) ⊎ All (λ b. b ≡ 32) line
 
 -- one edit and at most so many more, none in a blank line or a comment, or where the first wrong
 -- word stands: where words are missing it is the length of the line, in too long a line 4,096

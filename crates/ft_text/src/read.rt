@@ -3,10 +3,10 @@
 ghost use Rattle.std.specs.Prelude.{◌≡◌, ◌<◌, [], ◌∷◌, ◌++◌, length, OnOk, IfOk, IfErr, IfSome};
 ghost use Rattle.std.specs.List.{All};
 ghost use Rattle.ft_types.specs.Edits.{IsGivable};
-ghost use Rattle.ft_text.specs.Answers.{Reads, Tells};
+ghost use Rattle.ft_text.specs.Answers.{Reads, Tells, NoneExactly};
 ghost use Rattle.ft_text.specs.Edits.{edit_reading};
 ghost use Rattle.ft_text.specs.Kinds.{reading_of};
-ghost use Rattle.ft_text.specs.Lines.{time_reading, timed_reading, another_reading, others_reading, edits_reading, beginning, line_of, edits_behind};
+ghost use Rattle.ft_text.specs.Lines.{time_reading, timed_reading, another_reading, others_reading, edits_reading, begins_with_hash, beginning, line_of, edits_behind, IsSkipped};
 
 use crate::cursor::{Cursor, MOST_BYTES};
 use crate::fault::LineFault;
@@ -163,15 +163,23 @@ fn timed_batch(alloc: Global, line: &mut Cursor) -> Result<TimedBatch, LineFault
     Ok(TimedBatch { at, batch })
 }
 
+/// Whether a line begins with `#`.
+fn is_comment(line: &[u8]) -> bool
+    ensures { result ≡ begins_with_hash line.now }
+{
+    matches!(line, [b'#', ..])
+}
+
 /// A cursor at the front of a line, unless it is blank or a comment.
 #[tactic(auto, unfolding(crate::specs::Lines::beginning))]
 fn begin(line: &[u8]) -> Result<Option<Cursor>, LineFault>
-    ensures { Tells (λ cursor. cursor) result (beginning line.now) }
+    ensures value { Tells (λ cursor. cursor) result (beginning line.now) }
+    ensures none { NoneExactly (IsSkipped line.now) result }
 {
     if line.len() > MOST_BYTES {
         return Err(LineFault::Bad { at: 4096 });
     }
-    if let [b'#', ..] = line {
+    if is_comment(line) {
         return Ok(None);
     }
     let cursor = Cursor::new(line);
@@ -187,6 +195,7 @@ fn begin(line: &[u8]) -> Result<Option<Cursor>, LineFault>
 /// gives; the other fault is want of memory.
 pub fn read_edit(alloc: Global, line: &[u8]) -> Result<Option<Timed>, LineFault>
     ensures value { Tells (λ timed. (timed.at, timed.edit ∷ [])) result (line_of 0 line.now) }
+    ensures none { NoneExactly (IsSkipped line.now) result }
     ensures givable { IfOk result (λ timed. IfSome timed (λ t. IsGivable t.edit)) }
 {
     let Some(mut cursor) = begin(line)? else {
@@ -203,6 +212,7 @@ pub fn read_edit(alloc: Global, line: &[u8]) -> Result<Option<Timed>, LineFault>
 /// gives; the other fault is want of memory.
 pub fn read_batch(alloc: Global, line: &[u8]) -> Result<Option<TimedBatch>, LineFault>
     ensures value { Tells (λ timed. (timed.at, timed.batch)) result (line_of 15 line.now) }
+    ensures none { NoneExactly (IsSkipped line.now) result }
     ensures givable { IfOk result (λ timed. IfSome timed (λ t. All IsGivable t.batch)) }
 {
     let Some(mut cursor) = begin(line)? else {
