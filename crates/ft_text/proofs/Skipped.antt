@@ -14,7 +14,8 @@ only_spaces : (line : List ℕ) → is_over (start_of line) ≡ true → All (λ
 unfolding spaces
 only_spaces line over = λ k d here.
     let rest : length (drop (prefix_len is_space line) line) ≡ 0 = eqb-true _ 0 over in
-    eqb-true (get_or line k d) 32 (prefix_len_passes is_space line k d (omega (arith, here, rest, length-drop (prefix_len is_space line) line)))
+    eqb-true (get_or line k d) 32 (prefix_len_passes is_space line k d
+    (omega (arith, here, rest, length-drop (prefix_len is_space line) line)))
 
 spaces_only : (line : List ℕ) → All (λ b. b ≡ 32) line → is_over (start_of line) ≡ true
 unfolding spaces
