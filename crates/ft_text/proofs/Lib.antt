@@ -1,2 +1,11 @@
 mod Worked
 mod Lines
+pub mod Decimals
+pub mod FrameWords
+pub mod ReadingLaws
+pub mod WordsBack
+pub mod ValuesBack
+pub mod EditsBack
+pub mod LinesBack
+pub mod Names
+pub mod Skipped

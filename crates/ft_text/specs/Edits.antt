@@ -6,32 +6,32 @@ use Rattle.ft_text.specs.Reading.{Reading, give, ◌>>=◌, word}
 use Rattle.ft_text.specs.Values.{number_of, signed_of, name_of, frames_of}
 
 -- an argument of each type
-abbrev pub u8 : Reading ℕ
+unfoldable pub u8 : Reading ℕ
 u8 = word (number_of 255)
 
-abbrev pub u16 : Reading ℕ
+unfoldable pub u16 : Reading ℕ
 u16 = word (number_of 65535)
 
-abbrev pub u32 : Reading ℕ
+unfoldable pub u32 : Reading ℕ
 u32 = word (number_of 4294967295)
 
-abbrev pub i8 : Reading ℤ
+unfoldable pub i8 : Reading ℤ
 i8 = word (signed_of 127)
 
-abbrev pub i16 : Reading ℤ
+unfoldable pub i16 : Reading ℤ
 i16 = word (signed_of 32767)
 
-abbrev pub name_20 : Reading (List ℕ)
+unfoldable pub name_20 : Reading (List ℕ)
 name_20 = word (name_of 20)
 
-abbrev pub name_22 : Reading (List ℕ)
+unfoldable pub name_22 : Reading (List ℕ)
 name_22 = word (name_of 22)
 
-abbrev pub wide_frames : Reading (List ℤ)
+unfoldable pub wide_frames : Reading (List ℤ)
 wide_frames = word frames_of
 
 -- patterns
-abbrev pub cell_reading : Reading Edit
+unfoldable pub cell_reading : Reading Edit
 cell_reading = do
   p ← u8
   r ← u16
@@ -43,25 +43,25 @@ cell_reading = do
   par ← u8
   give (edits.Cell p r c note ins vol eff par)
 
-abbrev pub rows_reading : Reading Edit
+unfoldable pub rows_reading : Reading Edit
 rows_reading = do
   p ← u8
   n ← u16
   give (edits.Rows p n)
 
-abbrev pub insrow_reading : Reading Edit
+unfoldable pub insrow_reading : Reading Edit
 insrow_reading = do
   p ← u8
   r ← u16
   give (edits.Insrow p r)
 
-abbrev pub delrow_reading : Reading Edit
+unfoldable pub delrow_reading : Reading Edit
 delrow_reading = do
   p ← u8
   r ← u16
   give (edits.Delrow p r)
 
-abbrev pub clear_reading : Reading Edit
+unfoldable pub clear_reading : Reading Edit
 clear_reading = do
   p ← u8
   r ← u16
@@ -70,7 +70,7 @@ clear_reading = do
   w ← u8
   give (edits.Clear p r c h w)
 
-abbrev pub transpose_reading : Reading Edit
+unfoldable pub transpose_reading : Reading Edit
 transpose_reading = do
   p ← u8
   r ← u16
@@ -80,7 +80,7 @@ transpose_reading = do
   d ← i8
   give (edits.Transpose p r c h w d)
 
-abbrev pub copy_reading : Reading Edit
+unfoldable pub copy_reading : Reading Edit
 copy_reading = do
   p ← u8
   r ← u16
@@ -93,74 +93,74 @@ copy_reading = do
   give (edits.Copy p r c h w q r2 c2)
 
 -- the song
-abbrev pub order_reading : Reading Edit
+unfoldable pub order_reading : Reading Edit
 order_reading = do
   position ← u16
   p ← u8
   give (edits.Order position p)
 
-abbrev pub insorder_reading : Reading Edit
+unfoldable pub insorder_reading : Reading Edit
 insorder_reading = do
   position ← u16
   p ← u8
   give (edits.Insorder position p)
 
-abbrev pub delorder_reading : Reading Edit
+unfoldable pub delorder_reading : Reading Edit
 delorder_reading = do
   position ← u16
   give (edits.Delorder position)
 
-abbrev pub restart_reading : Reading Edit
+unfoldable pub restart_reading : Reading Edit
 restart_reading = do
   position ← u16
   give (edits.Restart position)
 
-abbrev pub tempo_reading : Reading Edit
+unfoldable pub tempo_reading : Reading Edit
 tempo_reading = do
   n ← u8
   give (edits.Tempo n)
 
-abbrev pub bpm_reading : Reading Edit
+unfoldable pub bpm_reading : Reading Edit
 bpm_reading = do
   n ← u8
   give (edits.Bpm n)
 
-abbrev pub title_reading : Reading Edit
+unfoldable pub title_reading : Reading Edit
 title_reading = do
   name ← name_20
   give (edits.Title name)
 
-abbrev pub newpat_reading : Reading Edit
+unfoldable pub newpat_reading : Reading Edit
 newpat_reading = do
   n ← u16
   give (edits.Newpat n)
 
-abbrev pub delpat_reading : Reading Edit
+unfoldable pub delpat_reading : Reading Edit
 delpat_reading = give edits.Delpat
 
 -- instruments
-abbrev pub newins_reading : Reading Edit
+unfoldable pub newins_reading : Reading Edit
 newins_reading = give edits.Newins
 
-abbrev pub clearins_reading : Reading Edit
+unfoldable pub clearins_reading : Reading Edit
 clearins_reading = do
   i ← u8
   give (edits.Clearins i)
 
-abbrev pub insname_reading : Reading Edit
+unfoldable pub insname_reading : Reading Edit
 insname_reading = do
   i ← u8
   name ← name_22
   give (edits.Insname i name)
 
-abbrev pub map_reading : Reading Edit
+unfoldable pub map_reading : Reading Edit
 map_reading = do
   i ← u8
   n ← u8
   k ← u8
   give (edits.Map i n k)
 
-abbrev pub env_reading : Reading Edit
+unfoldable pub env_reading : Reading Edit
 env_reading = do
   i ← u8
   w ← u8
@@ -171,7 +171,7 @@ env_reading = do
   flags ← u8
   give (edits.Env i w count sus ls le flags)
 
-abbrev pub point_reading : Reading Edit
+unfoldable pub point_reading : Reading Edit
 point_reading = do
   i ← u8
   w ← u8
@@ -180,7 +180,7 @@ point_reading = do
   y ← u8
   give (edits.Point i w k x y)
 
-abbrev pub vib_reading : Reading Edit
+unfoldable pub vib_reading : Reading Edit
 vib_reading = do
   i ← u8
   kind ← u8
@@ -189,31 +189,31 @@ vib_reading = do
   rate ← u8
   give (edits.Vib i kind sweep depth rate)
 
-abbrev pub fade_reading : Reading Edit
+unfoldable pub fade_reading : Reading Edit
 fade_reading = do
   i ← u8
   n ← u16
   give (edits.Fade i n)
 
 -- samples
-abbrev pub newsmp_reading : Reading Edit
+unfoldable pub newsmp_reading : Reading Edit
 newsmp_reading = do
   i ← u8
   give (edits.Newsmp i)
 
-abbrev pub delsmp_reading : Reading Edit
+unfoldable pub delsmp_reading : Reading Edit
 delsmp_reading = do
   i ← u8
   give (edits.Delsmp i)
 
-abbrev pub smpname_reading : Reading Edit
+unfoldable pub smpname_reading : Reading Edit
 smpname_reading = do
   i ← u8
   s ← u8
   name ← name_22
   give (edits.Smpname i s name)
 
-abbrev pub smp_reading : Reading Edit
+unfoldable pub smp_reading : Reading Edit
 smp_reading = do
   i ← u8
   s ← u8
@@ -223,7 +223,7 @@ smp_reading = do
   pan ← u8
   give (edits.Smp i s vol fine rel pan)
 
-abbrev pub loop_reading : Reading Edit
+unfoldable pub loop_reading : Reading Edit
 loop_reading = do
   i ← u8
   s ← u8
@@ -233,7 +233,7 @@ loop_reading = do
   give (edits.Loop i s kind start len)
 
 -- frames
-abbrev pub cut_reading : Reading Edit
+unfoldable pub cut_reading : Reading Edit
 cut_reading = do
   i ← u8
   s ← u8
@@ -241,7 +241,7 @@ cut_reading = do
   to ← u32
   give (edits.Cut i s from to)
 
-abbrev pub paste_reading : Reading Edit
+unfoldable pub paste_reading : Reading Edit
 paste_reading = do
   i ← u8
   s ← u8
@@ -249,7 +249,7 @@ paste_reading = do
   frames ← wide_frames
   give (edits.Paste i s at frames)
 
-abbrev pub reverse_reading : Reading Edit
+unfoldable pub reverse_reading : Reading Edit
 reverse_reading = do
   i ← u8
   s ← u8
@@ -257,7 +257,7 @@ reverse_reading = do
   to ← u32
   give (edits.Reverse i s from to)
 
-abbrev pub scale_reading : Reading Edit
+unfoldable pub scale_reading : Reading Edit
 scale_reading = do
   i ← u8
   s ← u8
@@ -267,7 +267,7 @@ scale_reading = do
   d ← u16
   give (edits.Scale i s from to n d)
 
-abbrev pub bits_reading : Reading Edit
+unfoldable pub bits_reading : Reading Edit
 bits_reading = do
   i ← u8
   s ← u8
@@ -275,7 +275,7 @@ bits_reading = do
   give (edits.Bits i s b)
 
 -- each name with the reading of what follows it
-abbrev pub readings : List (List ℕ × Reading Edit)
+unfoldable pub readings : List (List ℕ × Reading Edit)
 readings =
     (codes "cell", cell_reading) ∷
     (codes "rows", rows_reading) ∷

@@ -4,3 +4,6 @@ pub mod Reading
 pub mod Values
 pub mod Edits
 pub mod Lines
+pub mod Answers
+pub mod Kinds
+pub mod ReadBack

@@ -1,5 +1,6 @@
 -- What a line of a script says.
-use Rattle.std.specs.Prelude.{ℕ, zero, suc, ◌==◌, ◌||◌, Bool, false, List, [], ◌∷◌, length, nat_lt, bytes_eq, codes, Option, Some, None, Result, Ok, Err, if◌then◌else◌}
+use Rattle.std.specs.Prelude.{◌≡◌, ◌≤◌, ◌⊎◌, IsTrue, ℕ, zero, suc, ◌==◌, ◌||◌, Bool, false, List, [], ◌∷◌, ◌++◌, length, nat_lt, bytes_eq, codes, Option, Some, None, Result, Ok, Err, if◌then◌else◌}
+use Rattle.std.specs.List.{All}
 use Rattle.ft_types.specs.declared.edit.Edit.{Edit}
 use Rattle.ft_text.specs.Reading.{Place, Reading, give, ◌>>=◌, word, is_over, behind_spaces}
 use Rattle.ft_text.specs.Edits.{u32, edit_reading}
@@ -12,20 +13,31 @@ this_word wanted w = if bytes_eq w wanted then Some w else None
 abbrev pub end_of_line : {A : Type 0} → A → Reading A
 end_of_line x p = if is_over p then Ok (x, p) else Err (behind_spaces p).at
 
--- nothing more, or a `;` with others behind it
-abbrev pub others_reading : Reading (List Edit) → Reading (List Edit)
-others_reading others p = if is_over p then Ok ([], p) else (do
+-- another edit, behind a `;`
+unfoldable pub another_reading : Reading Edit
+another_reading = do
   separator ← word (this_word (codes ";"))
-  others) p
+  edit_reading
 
--- one edit, and at most so many more
+-- at most so many more edits
+unfoldable pub others_reading : ℕ → Reading (List Edit)
+others_reading zero p = end_of_line [] p
+others_reading (suc more) p = if is_over p then Ok ([], p) else (do
+  edit ← another_reading
+  others ← others_reading more
+  give (edit ∷ others)) p
+
+-- others, behind edits that are read
+abbrev pub edits_behind : List Edit → Reading (List Edit) → Reading (List Edit)
+edits_behind first reading = do
+  others ← reading
+  give (first ++ others)
+
+-- an edit, and at most so many more
 unfoldable pub edits_reading : ℕ → Reading (List Edit)
-edits_reading zero = do
+edits_reading more = do
   edit ← edit_reading
-  end_of_line (edit ∷ [])
-edits_reading (suc more) = do
-  edit ← edit_reading
-  others ← others_reading (edits_reading more)
+  others ← others_reading more
   give (edit ∷ others)
 
 -- a time where the first word was `at`, and else none, with nothing read
@@ -35,11 +47,11 @@ time_if p (Ok read) = (do
   give (Some time)) read.1
 time_if p (Err at) = Ok (None, p)
 
-abbrev pub time_reading : Reading (Option ℕ)
+unfoldable pub time_reading : Reading (Option ℕ)
 time_reading p = time_if p (word (this_word (codes "at")) p)
 
 -- a time or none, and edits
-abbrev pub timed_reading : ℕ → Reading (Option ℕ × List Edit)
+unfoldable pub timed_reading : ℕ → Reading (Option ℕ × List Edit)
 timed_reading more = do
   time ← time_reading
   edits ← edits_reading more
@@ -56,10 +68,24 @@ value_only (Err at) = Err at
 abbrev pub start_of : List ℕ → Place
 start_of line = record { at = 0; left = line }
 
+-- the place to read from; none in a blank line and in a comment, and a fault in too long a line
+unfoldable pub beginning : List ℕ → Result (Option Place) ℕ
+beginning line =
+    if nat_lt 4096 (length line) then Err 4096
+    else if begins_with_hash line || is_over (start_of line) then Ok None
+    else Ok (Some (start_of line))
+
+abbrev pub read_from : ℕ → Result (Option Place) ℕ → Result (Option (Option ℕ × List Edit)) ℕ
+read_from more (Ok None) = Ok None
+read_from more (Ok (Some p)) = value_only (timed_reading more p)
+read_from more (Err at) = Err at
+
+-- a line that says nothing: a comment, or no bytes but spaces
+pub record IsSkipped (line : List ℕ) : Type 0 where
+  pub short : length line ≤ 4096
+  pub quiet : IsTrue (begins_with_hash line) ⊎ All (λ b. b ≡ 32) line
+
 -- one edit and at most so many more, none in a blank line or a comment, or where the first wrong
 -- word stands: where words are missing it is the length of the line, in too long a line 4,096
 abbrev pub line_of : ℕ → List ℕ → Result (Option (Option ℕ × List Edit)) ℕ
-line_of more line =
-    if nat_lt 4096 (length line) then Err 4096
-    else if begins_with_hash line || is_over (start_of line) then Ok None
-    else value_only (timed_reading more (start_of line))
+line_of more line = read_from more (beginning line)

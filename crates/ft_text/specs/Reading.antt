@@ -1,5 +1,6 @@
 -- How a line is read: word by word from the left, up to the first word that is wrong.
-use Rattle.std.specs.Prelude.{ℕ, suc, ◌+◌, ◌==◌, Bool, List, [], ◌∷◌, length, take, drop, Option, Some, None, Result, Ok, Err, if◌then◌else◌}
+use Rattle.std.specs.Prelude.{ℕ, ◌+◌, ◌==◌, Bool, List, length, take, drop, Option, Some, None, Result, Ok, Err, if◌then◌else◌}
+use Rattle.std.specs.List.{prefix_len, position_or_len}
 
 -- a place in a line: how many bytes stand before it, and those from there on
 pub record Place : Type 0 where
@@ -27,13 +28,11 @@ abbrev pub ◌>>=◌ : {A B : Type 0} → Reading A → (A → Reading B) → Re
 
 -- how many spaces come first
 unfoldable pub spaces : List ℕ → ℕ
-spaces [] = 0
-spaces (b ∷ rest) = if b == 32 then suc (spaces rest) else 0
+spaces bytes = prefix_len (λ b. b == 32) bytes
 
 -- how many bytes come before the first space
 unfoldable pub word_length : List ℕ → ℕ
-word_length [] = 0
-word_length (b ∷ rest) = if b == 32 then 0 else suc (word_length rest)
+word_length bytes = position_or_len (λ b. b == 32) bytes
 
 -- the place n bytes on
 abbrev pub beyond : ℕ → Place → Place
@@ -47,13 +46,24 @@ behind_spaces p = beyond (spaces p.left) p
 abbrev pub is_over : Place → Bool
 is_over p = length (behind_spaces p).left == 0
 
--- a word's value, or that the word at this place is wrong
-abbrev pub or_wrong : {A : Type 0} → Place → Option A → Result (A × Place) ℕ
-or_wrong p (Some x) = Ok (x, beyond (word_length p.left) p)
-or_wrong p None = Err p.at
+-- the word at this place
+abbrev pub first_word : Place → List ℕ
+first_word p = take (word_length p.left) p.left
 
--- the next word, seen as a value; it is wrong where it has none, or where there is no word
-abbrev pub word : {A : Type 0} → (List ℕ → Option A) → Reading A
-word value p =
+-- the next word, with its place; where there is none, the line ends too early
+unfoldable pub next_word : Reading (ℕ × List ℕ)
+next_word p =
     let start = behind_spaces p in
-    if is_over p then Err start.at else or_wrong start (value (take (word_length start.left) start.left))
+    if is_over p then Err start.at
+    else Ok ((start.at, first_word start), beyond (word_length start.left) start)
+
+-- a value, or that the word at this place is wrong
+abbrev pub or_wrong : {A : Type 0} → ℕ → Option A → Reading A
+or_wrong at (Some x) = give x
+or_wrong at None = λ p. Err at
+
+-- the next word, seen as a value; it is wrong where it has none
+abbrev pub word : {A : Type 0} → (List ℕ → Option A) → Reading A
+word value = do
+  found ← next_word
+  or_wrong found.0 (value found.1)

@@ -2,11 +2,28 @@
 //!
 //! Which text an edit and a batch have stands in `specs/`: `Words` has the words of each edit, and
 //! `Texts` puts words together. `print_edit` and `print_batch` write exactly that text. What a line
-//! says, or where its first wrong word stands, is `line_of` of `specs/Lines`; no call reads a line
-//! yet.
+//! says, or where its first wrong word stands, is `line_of` of `specs/Lines`: `read_edit` and
+//! `read_batch` answer exactly that, unless memory is wanting.
 #![tactic(auto)]
 
+mod arguments;
+mod bytes;
+mod cursor;
+mod fault;
+mod instruments;
+mod kind;
+mod laws;
+mod numbers;
+mod patterns;
 mod print;
+mod read;
+mod samples;
+mod song;
+mod timed;
 mod words;
 
+pub use fault::LineFault;
+pub use laws::{printed_batches_are_read, printed_edits_are_read, texts_differ};
 pub use print::{print_batch, print_edit};
+pub use read::{read_batch, read_edit};
+pub use timed::{Timed, TimedBatch};

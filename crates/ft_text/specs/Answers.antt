@@ -1,0 +1,29 @@
+-- What a reader answers, against what it reads. Want of memory alone is free.
+use Rattle.std.specs.Prelude.{◌≡◌, ℕ, Option, Some, None, Result, Ok, Err}
+use Rattle.ft_text.specs.declared.fault.LineFault.{LineFault}
+use Rattle.ft_text.specs.declared.fault.LineFault.TheVariants.{Bad, NoMemory}
+use Rattle.ft_text.specs.Reading.{Place}
+
+-- the fault of a reading
+abbrev pub Fails : {Y : Type 0} → LineFault → Result Y ℕ → Type 0
+Fails NoMemory read = Unit {0}
+Fails (Bad at) read = read ≡ Err at
+
+-- what was answered at a place is this reading, which goes on at the next place
+abbrev pub Reads : {X Y : Type 0} → (X → Y) → Result X LineFault → Place
+    → Result (Y × Place) ℕ → Type 0
+Reads view (Ok x) next read = read ≡ Ok (view x, next)
+Reads view (Err fault) next read = Fails fault read
+
+-- what was answered of a line is what the line says
+abbrev pub Tells : {X Y : Type 0} → (X → Y) → Result (Option X) LineFault
+    → Result (Option Y) ℕ → Type 0
+Tells view (Ok None) said = said ≡ Ok None
+Tells view (Ok (Some x)) said = said ≡ Ok (Some (view x))
+Tells view (Err fault) said = Fails fault said
+
+-- none was answered exactly where this holds
+abbrev pub NoneExactly : {X : Type 0} → Type 0 → Result (Option X) LineFault → Type 0
+NoneExactly P (Ok None) = P
+NoneExactly P (Ok (Some x)) = P → ⊥
+NoneExactly P (Err fault) = P → ⊥

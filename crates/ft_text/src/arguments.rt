@@ -1,0 +1,111 @@
+//! Arguments of edits, each the next word of a line.
+
+ghost use Rattle.std.specs.Prelude.{◌≤◌, length, IfOk};
+ghost use Rattle.ft_text.specs.Answers.{Reads};
+ghost use Rattle.ft_text.specs.Edits.{u8, u16, u32, i8, i16, name_20, name_22, wide_frames};
+
+use crate::bytes::{frames, name};
+use crate::cursor::Cursor;
+use crate::fault::LineFault;
+use crate::numbers::{number, signed};
+use ft_types::Frames;
+use std::alloc::Global;
+
+impl<'a> Cursor<'a> {
+    /// A number of at most 255.
+    #[tactic(auto, unfolding(crate::specs::Edits::u8))]
+    pub fn u8(&mut self) -> Result<u8, LineFault>
+        ensures { Reads (λ n. n) result self.new (u8 self.old) }
+    {
+        let word = self.word()?;
+        let Some(n) = number(word.bytes, 255) else {
+            return Err(LineFault::Bad { at: word.at });
+        };
+        Ok(n as u8)
+    }
+
+    /// A number of at most 65,535.
+    #[tactic(auto, unfolding(crate::specs::Edits::u16))]
+    pub fn u16(&mut self) -> Result<u16, LineFault>
+        ensures { Reads (λ n. n) result self.new (u16 self.old) }
+    {
+        let word = self.word()?;
+        let Some(n) = number(word.bytes, 65_535) else {
+            return Err(LineFault::Bad { at: word.at });
+        };
+        Ok(n as u16)
+    }
+
+    /// A number of at most 4,294,967,295.
+    #[tactic(auto, unfolding(crate::specs::Edits::u32))]
+    pub fn u32(&mut self) -> Result<u32, LineFault>
+        ensures { Reads (λ n. n) result self.new (u32 self.old) }
+    {
+        let word = self.word()?;
+        let Some(n) = number(word.bytes, u32::MAX) else {
+            return Err(LineFault::Bad { at: word.at });
+        };
+        Ok(n)
+    }
+
+    /// A number from -128 to 127.
+    #[tactic(auto, unfolding(crate::specs::Edits::i8))]
+    pub fn i8(&mut self) -> Result<i8, LineFault>
+        ensures { Reads (λ n. n) result self.new (i8 self.old) }
+    {
+        let word = self.word()?;
+        let Some(n) = signed(word.bytes, 127) else {
+            return Err(LineFault::Bad { at: word.at });
+        };
+        Ok(n as i8)
+    }
+
+    /// A number from -32,768 to 32,767.
+    #[tactic(auto, unfolding(crate::specs::Edits::i16))]
+    pub fn i16(&mut self) -> Result<i16, LineFault>
+        ensures { Reads (λ n. n) result self.new (i16 self.old) }
+    {
+        let word = self.word()?;
+        let Some(n) = signed(word.bytes, 32_767) else {
+            return Err(LineFault::Bad { at: word.at });
+        };
+        Ok(n as i16)
+    }
+
+    /// A name of 1 to 20 bytes; those that aren't given are 0.
+    #[tactic(auto, unfolding(crate::specs::Edits::name_20))]
+    pub fn name_20(&mut self, alloc: Global) -> Result<[u8; 20], LineFault>
+        ensures { Reads (λ name. name) result self.new (name_20 self.old) }
+    {
+        let word = self.word()?;
+        let Some(name) = name(alloc, word.bytes)? else {
+            return Err(LineFault::Bad { at: word.at });
+        };
+        Ok(name)
+    }
+
+    /// A name of 1 to 22 bytes; those that aren't given are 0.
+    #[tactic(auto, unfolding(crate::specs::Edits::name_22))]
+    pub fn name_22(&mut self, alloc: Global) -> Result<[u8; 22], LineFault>
+        ensures { Reads (λ name. name) result self.new (name_22 self.old) }
+    {
+        let word = self.word()?;
+        let Some(name) = name(alloc, word.bytes)? else {
+            return Err(LineFault::Bad { at: word.at });
+        };
+        Ok(name)
+    }
+
+    /// 1 to 256 frames.
+    #[tactic(auto, unfolding(crate::specs::Edits::wide_frames))]
+    pub fn frames(&mut self, alloc: Global) -> Result<Frames, LineFault>
+        ensures value { Reads (λ frames. frames) result self.new (wide_frames self.old) }
+        ensures few { IfOk result (λ frames. (1 ≤ length frames) × (length frames ≤ 256)) }
+    {
+        let word = self.word()?;
+        let Some(frames) = frames(alloc, word.bytes)? else {
+            return Err(LineFault::Bad { at: word.at });
+        };
+        Ok(frames)
+    }
+}

@@ -1,0 +1,19 @@
+//! Laws of the texts of edits. These functions have no code; their clauses are what a caller gets.
+
+ghost use Rattle.ft_text.specs.ReadBack.{EditsAreReadBack, TextsDiffer, BatchesAreReadBack};
+
+/// The text of an edit says that edit and no time, for every edit whose values are in the ranges of
+/// their types, a paste with 1 to 256 frames.
+pub fn printed_edits_are_read()
+    ensures { EditsAreReadBack }
+{}
+
+/// Two such edits that differ have texts that differ.
+pub fn texts_differ()
+    ensures { TextsDiffer }
+{}
+
+/// The text of a batch of such edits says that batch and no time, where it has at most 4,096 bytes.
+pub fn printed_batches_are_read()
+    ensures { BatchesAreReadBack }
+{}

@@ -1,0 +1,69 @@
+//! Numbers of words.
+
+ghost use Rattle.std.specs.Prelude.{◌≡◌, ◌≢◌, ◌∷◌, ◌<◌, ◌≤◌, slice_index, IfSome, IfNone, IsTrue};
+ghost use Rattle.std.specs.Str.Parse.{AllDigits, digits_value};
+ghost use Rattle.ft_text.specs.Values.{number_of, signed_of, is_within};
+
+/// The value of decimal digits, unless there is another byte or it is over `most`.
+fn value_of(digits: &[u8], most: u32) -> Option<u32>
+    ensures some { IfSome result (λ n. AllDigits 10 digits.now × (n ≡ digits_value 10 digits.now)) }
+    ensures within { IfSome result (λ n. n ≤ most) }
+    ensures none { IfNone result (AllDigits 10 digits.now → most < digits_value 10 digits.now) }
+{
+    let mut value = 0u64;
+    for digit in digits {
+        if !digit.is_ascii_digit() {
+            return None;
+        }
+        value = value * 10 + u64::from(*digit - b'0');
+        if value > u64::from(most) {
+            return None;
+        }
+    }
+    Some(value as u32)
+}
+
+/// A number of at most `most`, in decimal digits without leading zeros.
+pub fn number(word: &[u8], most: u32) -> Option<u32>
+    ensures value { result ≡ number_of most word.now }
+    ensures within { IfSome result (λ n. n ≤ most) }
+{
+    if word.is_empty() {
+        return None;
+    }
+    if word[0] == b'0' && word.len() > 1 {
+        return None;
+    }
+    value_of(word, most)
+}
+
+/// The number below 0 whose digits these are, from `-most - 1` on.
+fn below_zero(digits: &[u8], most: u16) -> Option<i32>
+    ensures value { result ≡ signed_of most (45 ∷ digits.now) }
+    ensures within { IfSome result (λ n. IsTrue (is_within most n)) }
+{
+    let n = number(digits, u32::from(most) + 1)?;
+    if n == 0 { None } else { Some(-(n as i32)) }
+}
+
+/// The number from 0 to `most` that a word without `-` says.
+fn from_zero(word: &[u8], most: u16) -> Option<i32>
+    requires { slice_index word.now 0 ≢ 45 }
+    ensures value { result ≡ signed_of most word.now }
+    ensures within { IfSome result (λ n. IsTrue (is_within most n)) }
+{
+    let n = number(word, u32::from(most))?;
+    Some(n as i32)
+}
+
+/// A number from `-most - 1` to `most`, in decimal digits without leading zeros, with `-` before
+/// one below 0.
+pub fn signed(word: &[u8], most: u16) -> Option<i32>
+    ensures value { result ≡ signed_of most word.now }
+    ensures within { IfSome result (λ n. IsTrue (is_within most n)) }
+{
+    if word.is_empty() || word[0] != b'-' {
+        return from_zero(word, most);
+    }
+    below_zero(&word[1..], most)
+}
