@@ -7,7 +7,8 @@
 //! many blocks a valid module takes. None of the three takes memory.
 //!
 //! An `Edit` is a change of a module that is asked for, a `Batch` some edits that are
-//! committed together, and a `Journal` what was committed and what was refused.
+//! committed together, and a `Journal` what was committed and what was refused. A
+//! `TickReport` names the version behind a tick that was played.
 #![tactic(auto)]
 
 mod batch;
@@ -29,6 +30,7 @@ mod sample;
 mod shelf;
 mod slots;
 mod steps;
+mod tick_report;
 mod validity;
 mod view;
 mod voice;
@@ -49,6 +51,7 @@ pub use pattern::{Cell, Cells, Pattern, Patterns};
 pub use plain::is_plain;
 pub use sample::{Frames, Sample, Samples};
 pub use steps::Steps;
+pub use tick_report::{TickReport, Ticks};
 pub use validity::valid;
 pub use view::SongView;
 pub use voice::{SampleHead, Voice};
