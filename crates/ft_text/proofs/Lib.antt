@@ -9,3 +9,4 @@ pub mod EditsBack
 pub mod LinesBack
 pub mod Names
 pub mod Skipped
+pub mod Joined

@@ -7,3 +7,5 @@ pub mod Lines
 pub mod Answers
 pub mod Kinds
 pub mod ReadBack
+pub mod Record
+pub mod Ledger
