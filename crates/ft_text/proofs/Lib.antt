@@ -10,3 +10,4 @@ pub mod LinesBack
 pub mod Names
 pub mod Skipped
 pub mod Joined
+mod LedgerWorked

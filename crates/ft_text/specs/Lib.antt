@@ -9,3 +9,5 @@ pub mod Kinds
 pub mod ReadBack
 pub mod Record
 pub mod Ledger
+pub mod LedgerWords
+pub mod LedgerReading

@@ -1,0 +1,127 @@
+-- Ledgers, computed.
+use Rattle.std.proofs.Common.{◌≡◌, [], ◌∷◌, codes, Some, Ok, Err, refl}
+use Rattle.std.specs.Fmt.{digits}
+use Rattle.hex.specs.Hex.{encode_with, decode_pairs}
+use Rattle.ft_types.specs.declared.edit.Edit.TheVariants as edits
+use Rattle.ft_types.specs.declared.edit_fault.EditFault.TheVariants as causes
+use Rattle.ft_types.specs.declared.commit_fault.CommitFault.TheVariants as faults
+use Rattle.ft_text.specs.Reading.{spaces, word_length}
+use Rattle.ft_text.specs.Edits.{edit_reading}
+use Rattle.ft_text.specs.Lines.{edits_reading}
+use Rattle.ft_text.specs.Texts.{batch_text, edit_text}
+use Rattle.ft_text.specs.Record.{Account}
+use Rattle.ft_text.specs.Ledger.{ledger_lines, ledger_text}
+use Rattle.ft_text.specs.LedgerWords.{word, batch, batch_of, fault, cause}
+use Rattle.ft_text.specs.LedgerReading.{one_line, many, maybe_line, over, ledger, ledger_of}
+
+abbrev account : Account
+account = record {
+  run = record { rate = 44100; seconds = 60; segments = 16384; channels = 8; status = 9 };
+  entries = record { version = 1; hand = 0; seq = 1; batch = edits.Tempo 3 ∷ edits.Bpm 140 ∷ [] } ∷ [];
+  refusals = record { hand = 0; seq = 2; batch = edits.Cell 0 64 0 49 1 0 0 0 ∷ []; cause = faults.Edit 0 (causes.NoRow 64 64) }
+      ∷ record { hand = 1; seq = 1; batch = edits.Newins ∷ []; cause = faults.Full 7 6 } ∷ [];
+  ticks = record { version = 0; order = 0; row = 0; tick = 0; frames = 167 }
+      ∷ record { version = 1; order = 0; row = 0; tick = 1; frames = 168 } ∷ [];
+  hands = record { hand = 0; cause = 1; at = 3 } ∷ record { hand = 2; cause = 4; at = 5 } ∷ [];
+  saved = Some (record { version = 1; bytes = 782 });
+}
+
+printed : ledger_text 2 account
+    ≡ codes "xmstudio ledger 2\nplay 44100 60 16384 8\nc 1 0 1 tempo 3 ; bpm 140\nr 0 2 edit 0 2 64 64 cell 0 64 0 49 1 0 0 0\nr 1 1 full 7 6 newins\nt 0 0 0 0 0 167\nt 1 1 0 0 1 168\nh 0 malformed 3\nh 2 memory 5\ns 1 782\nend 9 2\n"
+unfolding ledger_of ledger over maybe_line many one_line word batch batch_of fault cause edits_reading edit_reading spaces word_length digits encode_with decode_pairs ledger_text ledger_lines batch_text edit_text
+printed = refl
+
+read : ledger_of (codes "xmstudio ledger 2\nplay 44100 60 16384 8\nc 1 0 1 tempo 3 ; bpm 140\nr 0 2 edit 0 2 64 64 cell 0 64 0 49 1 0 0 0\nr 1 1 full 7 6 newins\nt 0 0 0 0 0 167\nt 1 1 0 0 1 168\nh 0 malformed 3\nh 2 memory 5\ns 1 782\nend 9 2\n")
+    ≡ Ok account
+unfolding ledger_of ledger over maybe_line many one_line word batch batch_of fault cause edits_reading edit_reading spaces word_length digits encode_with decode_pairs ledger_text ledger_lines batch_text edit_text
+read = refl
+
+nothing : ledger_of (codes "")
+    ≡ Err 1
+unfolding ledger_of ledger over maybe_line many one_line word batch batch_of fault cause edits_reading edit_reading spaces word_length digits encode_with decode_pairs ledger_text ledger_lines batch_text edit_text
+nothing = refl
+
+no_play : ledger_of (codes "xmstudio ledger 2\nc 1 0 1 tempo 3 ; bpm 140\nr 0 2 edit 0 2 64 64 cell 0 64 0 49 1 0 0 0\nr 1 1 full 7 6 newins\nt 0 0 0 0 0 167\nt 1 1 0 0 1 168\nh 0 malformed 3\nh 2 memory 5\ns 1 782\nend 9 2\n")
+    ≡ Err 2
+unfolding ledger_of ledger over maybe_line many one_line word batch batch_of fault cause edits_reading edit_reading spaces word_length digits encode_with decode_pairs ledger_text ledger_lines batch_text edit_text
+no_play = refl
+
+unknown_form : ledger_of (codes "xmstudio ledger 3\nplay 44100 60 16384 8\nc 1 0 1 tempo 3 ; bpm 140\nr 0 2 edit 0 2 64 64 cell 0 64 0 49 1 0 0 0\nr 1 1 full 7 6 newins\nt 0 0 0 0 0 167\nt 1 1 0 0 1 168\nh 0 malformed 3\nh 2 memory 5\ns 1 782\nend 9 2\n")
+    ≡ Err 1
+unfolding ledger_of ledger over maybe_line many one_line word batch batch_of fault cause edits_reading edit_reading spaces word_length digits encode_with decode_pairs ledger_text ledger_lines batch_text edit_text
+unknown_form = refl
+
+form_1_has_no_place : ledger_of (codes "xmstudio ledger 1\nplay 44100 60 16384 8\nc 1 0 1 tempo 3 ; bpm 140\nr 0 2 edit 0 2 64 64 cell 0 64 0 49 1 0 0 0\nr 1 1 full 7 6 newins\nt 0 0 0 0 0 167\nt 1 1 0 0 1 168\nh 0 malformed 3\nh 2 memory 5\ns 1 782\nend 9 2\n")
+    ≡ Err 3
+unfolding ledger_of ledger over maybe_line many one_line word batch batch_of fault cause edits_reading edit_reading spaces word_length digits encode_with decode_pairs ledger_text ledger_lines batch_text edit_text
+form_1_has_no_place = refl
+
+two_spaces : ledger_of (codes "xmstudio ledger 2\nplay 44100  60 16384 8\nc 1 0 1 tempo 3 ; bpm 140\nr 0 2 edit 0 2 64 64 cell 0 64 0 49 1 0 0 0\nr 1 1 full 7 6 newins\nt 0 0 0 0 0 167\nt 1 1 0 0 1 168\nh 0 malformed 3\nh 2 memory 5\ns 1 782\nend 9 2\n")
+    ≡ Err 2
+unfolding ledger_of ledger over maybe_line many one_line word batch batch_of fault cause edits_reading edit_reading spaces word_length digits encode_with decode_pairs ledger_text ledger_lines batch_text edit_text
+two_spaces = refl
+
+leading_zero : ledger_of (codes "xmstudio ledger 2\nplay 44100 60 16384 8\nc 1 0 1 tempo 3 ; bpm 140\nr 0 2 edit 0 2 64 64 cell 0 64 0 49 1 0 0 0\nr 1 1 full 7 6 newins\nt 0 00 0 0 0 167\nt 1 1 0 0 1 168\nh 0 malformed 3\nh 2 memory 5\ns 1 782\nend 9 2\n")
+    ≡ Err 6
+unfolding ledger_of ledger over maybe_line many one_line word batch batch_of fault cause edits_reading edit_reading spaces word_length digits encode_with decode_pairs ledger_text ledger_lines batch_text edit_text
+leading_zero = refl
+
+tick_missing : ledger_of (codes "xmstudio ledger 2\nplay 44100 60 16384 8\nc 1 0 1 tempo 3 ; bpm 140\nr 0 2 edit 0 2 64 64 cell 0 64 0 49 1 0 0 0\nr 1 1 full 7 6 newins\nt 1 1 0 0 1 168\nh 0 malformed 3\nh 2 memory 5\ns 1 782\nend 9 2\n")
+    ≡ Err 6
+unfolding ledger_of ledger over maybe_line many one_line word batch batch_of fault cause edits_reading edit_reading spaces word_length digits encode_with decode_pairs ledger_text ledger_lines batch_text edit_text
+tick_missing = refl
+
+hands_descend : ledger_of (codes "xmstudio ledger 2\nplay 44100 60 16384 8\nc 1 0 1 tempo 3 ; bpm 140\nr 0 2 edit 0 2 64 64 cell 0 64 0 49 1 0 0 0\nr 1 1 full 7 6 newins\nt 0 0 0 0 0 167\nt 1 1 0 0 1 168\nh 2 failed 3\nh 2 memory 5\ns 1 782\nend 9 2\n")
+    ≡ Err 9
+unfolding ledger_of ledger over maybe_line many one_line word batch batch_of fault cause edits_reading edit_reading spaces word_length digits encode_with decode_pairs ledger_text ledger_lines batch_text edit_text
+hands_descend = refl
+
+ticks_counted : ledger_of (codes "xmstudio ledger 2\nplay 44100 60 16384 8\nc 1 0 1 tempo 3 ; bpm 140\nr 0 2 edit 0 2 64 64 cell 0 64 0 49 1 0 0 0\nr 1 1 full 7 6 newins\nt 0 0 0 0 0 167\nt 1 1 0 0 1 168\nh 0 malformed 3\nh 2 memory 5\ns 1 782\nend 9 3\n")
+    ≡ Err 11
+unfolding ledger_of ledger over maybe_line many one_line word batch batch_of fault cause edits_reading edit_reading spaces word_length digits encode_with decode_pairs ledger_text ledger_lines batch_text edit_text
+ticks_counted = refl
+
+no_such_status : ledger_of (codes "xmstudio ledger 2\nplay 44100 60 16384 8\nc 1 0 1 tempo 3 ; bpm 140\nr 0 2 edit 0 2 64 64 cell 0 64 0 49 1 0 0 0\nr 1 1 full 7 6 newins\nt 0 0 0 0 0 167\nt 1 1 0 0 1 168\nh 0 malformed 3\nh 2 memory 5\ns 1 782\nend 6 2\n")
+    ≡ Err 11
+unfolding ledger_of ledger over maybe_line many one_line word batch batch_of fault cause edits_reading edit_reading spaces word_length digits encode_with decode_pairs ledger_text ledger_lines batch_text edit_text
+no_such_status = refl
+
+no_end : ledger_of (codes "xmstudio ledger 2\nplay 44100 60 16384 8\nc 1 0 1 tempo 3 ; bpm 140\nr 0 2 edit 0 2 64 64 cell 0 64 0 49 1 0 0 0\nr 1 1 full 7 6 newins\nt 0 0 0 0 0 167\nt 1 1 0 0 1 168\nh 0 malformed 3\nh 2 memory 5\ns 1 782\n")
+    ≡ Err 11
+unfolding ledger_of ledger over maybe_line many one_line word batch batch_of fault cause edits_reading edit_reading spaces word_length digits encode_with decode_pairs ledger_text ledger_lines batch_text edit_text
+no_end = refl
+
+no_last_lf : ledger_of (codes "xmstudio ledger 2\nplay 44100 60 16384 8\nc 1 0 1 tempo 3 ; bpm 140\nr 0 2 edit 0 2 64 64 cell 0 64 0 49 1 0 0 0\nr 1 1 full 7 6 newins\nt 0 0 0 0 0 167\nt 1 1 0 0 1 168\nh 0 malformed 3\nh 2 memory 5\ns 1 782\nend 9 2")
+    ≡ Err 11
+unfolding ledger_of ledger over maybe_line many one_line word batch batch_of fault cause edits_reading edit_reading spaces word_length digits encode_with decode_pairs ledger_text ledger_lines batch_text edit_text
+no_last_lf = refl
+
+more_behind : ledger_of (codes "xmstudio ledger 2\nplay 44100 60 16384 8\nc 1 0 1 tempo 3 ; bpm 140\nr 0 2 edit 0 2 64 64 cell 0 64 0 49 1 0 0 0\nr 1 1 full 7 6 newins\nt 0 0 0 0 0 167\nt 1 1 0 0 1 168\nh 0 malformed 3\nh 2 memory 5\ns 1 782\nend 9 2\nx")
+    ≡ Err 12
+unfolding ledger_of ledger over maybe_line many one_line word batch batch_of fault cause edits_reading edit_reading spaces word_length digits encode_with decode_pairs ledger_text ledger_lines batch_text edit_text
+more_behind = refl
+
+another_line : ledger_of (codes "xmstudio ledger 2\nplay 44100 60 16384 8\nc 1 0 1 tempo 3 ; bpm 140\nr 0 2 edit 0 2 64 64 cell 0 64 0 49 1 0 0 0\nr 1 1 full 7 6 newins\nt 0 0 0 0 0 167\nt 1 1 0 0 1 168\nh 0 malformed 3\nh 2 memory 5\ns 1 782\nend 9 2\nend 9 2\n")
+    ≡ Err 12
+unfolding ledger_of ledger over maybe_line many one_line word batch batch_of fault cause edits_reading edit_reading spaces word_length digits encode_with decode_pairs ledger_text ledger_lines batch_text edit_text
+another_line = refl
+
+trailing_space : ledger_of (codes "xmstudio ledger 2\nplay 44100 60 16384 8\nc 1 0 1 tempo 3 \nr 0 2 edit 0 2 64 64 cell 0 64 0 49 1 0 0 0\nr 1 1 full 7 6 newins\nt 0 0 0 0 0 167\nt 1 1 0 0 1 168\nh 0 malformed 3\nh 2 memory 5\ns 1 782\nend 9 2\n")
+    ≡ Err 3
+unfolding ledger_of ledger over maybe_line many one_line word batch batch_of fault cause edits_reading edit_reading spaces word_length digits encode_with decode_pairs ledger_text ledger_lines batch_text edit_text
+trailing_space = refl
+
+space_in_a_batch : ledger_of (codes "xmstudio ledger 2\nplay 44100 60 16384 8\nc 1 0 1 tempo 3 ;  bpm 140\nr 0 2 edit 0 2 64 64 cell 0 64 0 49 1 0 0 0\nr 1 1 full 7 6 newins\nt 0 0 0 0 0 167\nt 1 1 0 0 1 168\nh 0 malformed 3\nh 2 memory 5\ns 1 782\nend 9 2\n")
+    ≡ Err 3
+unfolding ledger_of ledger over maybe_line many one_line word batch batch_of fault cause edits_reading edit_reading spaces word_length digits encode_with decode_pairs ledger_text ledger_lines batch_text edit_text
+space_in_a_batch = refl
+
+no_edit : ledger_of (codes "xmstudio ledger 2\nplay 44100 60 16384 8\nc 1 0 1 \nr 0 2 edit 0 2 64 64 cell 0 64 0 49 1 0 0 0\nr 1 1 full 7 6 newins\nt 0 0 0 0 0 167\nt 1 1 0 0 1 168\nh 0 malformed 3\nh 2 memory 5\ns 1 782\nend 9 2\n")
+    ≡ Err 3
+unfolding ledger_of ledger over maybe_line many one_line word batch batch_of fault cause edits_reading edit_reading spaces word_length digits encode_with decode_pairs ledger_text ledger_lines batch_text edit_text
+no_edit = refl
+
+a_time : ledger_of (codes "xmstudio ledger 2\nplay 44100 60 16384 8\nc 1 0 1 at 1 tempo 3\nr 0 2 edit 0 2 64 64 cell 0 64 0 49 1 0 0 0\nr 1 1 full 7 6 newins\nt 0 0 0 0 0 167\nt 1 1 0 0 1 168\nh 0 malformed 3\nh 2 memory 5\ns 1 782\nend 9 2\n")
+    ≡ Err 3
+unfolding ledger_of ledger over maybe_line many one_line word batch batch_of fault cause edits_reading edit_reading spaces word_length digits encode_with decode_pairs ledger_text ledger_lines batch_text edit_text
+a_time = refl
