@@ -5,14 +5,14 @@ use Rattle.hex.specs.Hex.{encode_with, decode_pairs}
 use Rattle.ft_types.specs.declared.edit.Edit.TheVariants as edits
 use Rattle.ft_types.specs.declared.edit_fault.EditFault.TheVariants as causes
 use Rattle.ft_types.specs.declared.commit_fault.CommitFault.TheVariants as faults
-use Rattle.ft_text.specs.Reading.{spaces, word_length}
-use Rattle.ft_text.specs.Edits.{edit_reading}
-use Rattle.ft_text.specs.Lines.{edits_reading}
+use Rattle.ft_text.specs.Reading.{spaces, word_length, next_word}
+use Rattle.ft_text.specs.Edits.{edit_reading, readings, tempo_reading, bpm_reading, cell_reading, newins_reading, u8, u16, u32}
+use Rattle.ft_text.specs.Lines.{beginning, timed_reading, time_reading, edits_reading, others_reading, another_reading}
 use Rattle.ft_text.specs.Texts.{batch_text, edit_text}
 use Rattle.ft_text.specs.Record.{Account}
 use Rattle.ft_text.specs.Ledger.{ledger_lines, ledger_text}
 use Rattle.ft_text.specs.LedgerWords.{word, batch, batch_of, fault, cause}
-use Rattle.ft_text.specs.LedgerReading.{one_line, many, maybe_line, over, ledger, ledger_of}
+use Rattle.ft_text.specs.LedgerReading.{one_line, lines_from, many, maybe_line, over, ledger, ledger_of}
 
 abbrev account : Account
 account = record {
@@ -28,100 +28,140 @@ account = record {
 
 printed : ledger_text 2 account
     ≡ codes "xmstudio ledger 2\nplay 44100 60 16384 8\nc 1 0 1 tempo 3 ; bpm 140\nr 0 2 edit 0 2 64 64 cell 0 64 0 49 1 0 0 0\nr 1 1 full 7 6 newins\nt 0 0 0 0 0 167\nt 1 1 0 0 1 168\nh 0 malformed 3\nh 2 memory 5\ns 1 782\nend 9 2\n"
-unfolding ledger_of ledger over maybe_line many one_line word batch batch_of fault cause edits_reading edit_reading spaces word_length digits encode_with decode_pairs ledger_text ledger_lines batch_text edit_text
+unfolding ledger_of ledger over maybe_line many lines_from one_line word batch batch_of fault cause ledger_text ledger_lines
+    batch_text edit_text beginning timed_reading time_reading edits_reading others_reading another_reading edit_reading readings
+    tempo_reading bpm_reading cell_reading newins_reading u8 u16 u32 next_word spaces word_length digits encode_with decode_pairs
 printed = refl
 
 read : ledger_of (codes "xmstudio ledger 2\nplay 44100 60 16384 8\nc 1 0 1 tempo 3 ; bpm 140\nr 0 2 edit 0 2 64 64 cell 0 64 0 49 1 0 0 0\nr 1 1 full 7 6 newins\nt 0 0 0 0 0 167\nt 1 1 0 0 1 168\nh 0 malformed 3\nh 2 memory 5\ns 1 782\nend 9 2\n")
     ≡ Ok account
-unfolding ledger_of ledger over maybe_line many one_line word batch batch_of fault cause edits_reading edit_reading spaces word_length digits encode_with decode_pairs ledger_text ledger_lines batch_text edit_text
+unfolding ledger_of ledger over maybe_line many lines_from one_line word batch batch_of fault cause ledger_text ledger_lines
+    batch_text edit_text beginning timed_reading time_reading edits_reading others_reading another_reading edit_reading readings
+    tempo_reading bpm_reading cell_reading newins_reading u8 u16 u32 next_word spaces word_length digits encode_with decode_pairs
 read = refl
 
 nothing : ledger_of (codes "")
     ≡ Err 1
-unfolding ledger_of ledger over maybe_line many one_line word batch batch_of fault cause edits_reading edit_reading spaces word_length digits encode_with decode_pairs ledger_text ledger_lines batch_text edit_text
+unfolding ledger_of ledger over maybe_line many lines_from one_line word batch batch_of fault cause ledger_text ledger_lines
+    batch_text edit_text beginning timed_reading time_reading edits_reading others_reading another_reading edit_reading readings
+    tempo_reading bpm_reading cell_reading newins_reading u8 u16 u32 next_word spaces word_length digits encode_with decode_pairs
 nothing = refl
 
 no_play : ledger_of (codes "xmstudio ledger 2\nc 1 0 1 tempo 3 ; bpm 140\nr 0 2 edit 0 2 64 64 cell 0 64 0 49 1 0 0 0\nr 1 1 full 7 6 newins\nt 0 0 0 0 0 167\nt 1 1 0 0 1 168\nh 0 malformed 3\nh 2 memory 5\ns 1 782\nend 9 2\n")
     ≡ Err 2
-unfolding ledger_of ledger over maybe_line many one_line word batch batch_of fault cause edits_reading edit_reading spaces word_length digits encode_with decode_pairs ledger_text ledger_lines batch_text edit_text
+unfolding ledger_of ledger over maybe_line many lines_from one_line word batch batch_of fault cause ledger_text ledger_lines
+    batch_text edit_text beginning timed_reading time_reading edits_reading others_reading another_reading edit_reading readings
+    tempo_reading bpm_reading cell_reading newins_reading u8 u16 u32 next_word spaces word_length digits encode_with decode_pairs
 no_play = refl
 
 unknown_form : ledger_of (codes "xmstudio ledger 3\nplay 44100 60 16384 8\nc 1 0 1 tempo 3 ; bpm 140\nr 0 2 edit 0 2 64 64 cell 0 64 0 49 1 0 0 0\nr 1 1 full 7 6 newins\nt 0 0 0 0 0 167\nt 1 1 0 0 1 168\nh 0 malformed 3\nh 2 memory 5\ns 1 782\nend 9 2\n")
     ≡ Err 1
-unfolding ledger_of ledger over maybe_line many one_line word batch batch_of fault cause edits_reading edit_reading spaces word_length digits encode_with decode_pairs ledger_text ledger_lines batch_text edit_text
+unfolding ledger_of ledger over maybe_line many lines_from one_line word batch batch_of fault cause ledger_text ledger_lines
+    batch_text edit_text beginning timed_reading time_reading edits_reading others_reading another_reading edit_reading readings
+    tempo_reading bpm_reading cell_reading newins_reading u8 u16 u32 next_word spaces word_length digits encode_with decode_pairs
 unknown_form = refl
 
 form_1_has_no_place : ledger_of (codes "xmstudio ledger 1\nplay 44100 60 16384 8\nc 1 0 1 tempo 3 ; bpm 140\nr 0 2 edit 0 2 64 64 cell 0 64 0 49 1 0 0 0\nr 1 1 full 7 6 newins\nt 0 0 0 0 0 167\nt 1 1 0 0 1 168\nh 0 malformed 3\nh 2 memory 5\ns 1 782\nend 9 2\n")
     ≡ Err 3
-unfolding ledger_of ledger over maybe_line many one_line word batch batch_of fault cause edits_reading edit_reading spaces word_length digits encode_with decode_pairs ledger_text ledger_lines batch_text edit_text
+unfolding ledger_of ledger over maybe_line many lines_from one_line word batch batch_of fault cause ledger_text ledger_lines
+    batch_text edit_text beginning timed_reading time_reading edits_reading others_reading another_reading edit_reading readings
+    tempo_reading bpm_reading cell_reading newins_reading u8 u16 u32 next_word spaces word_length digits encode_with decode_pairs
 form_1_has_no_place = refl
 
 two_spaces : ledger_of (codes "xmstudio ledger 2\nplay 44100  60 16384 8\nc 1 0 1 tempo 3 ; bpm 140\nr 0 2 edit 0 2 64 64 cell 0 64 0 49 1 0 0 0\nr 1 1 full 7 6 newins\nt 0 0 0 0 0 167\nt 1 1 0 0 1 168\nh 0 malformed 3\nh 2 memory 5\ns 1 782\nend 9 2\n")
     ≡ Err 2
-unfolding ledger_of ledger over maybe_line many one_line word batch batch_of fault cause edits_reading edit_reading spaces word_length digits encode_with decode_pairs ledger_text ledger_lines batch_text edit_text
+unfolding ledger_of ledger over maybe_line many lines_from one_line word batch batch_of fault cause ledger_text ledger_lines
+    batch_text edit_text beginning timed_reading time_reading edits_reading others_reading another_reading edit_reading readings
+    tempo_reading bpm_reading cell_reading newins_reading u8 u16 u32 next_word spaces word_length digits encode_with decode_pairs
 two_spaces = refl
 
 leading_zero : ledger_of (codes "xmstudio ledger 2\nplay 44100 60 16384 8\nc 1 0 1 tempo 3 ; bpm 140\nr 0 2 edit 0 2 64 64 cell 0 64 0 49 1 0 0 0\nr 1 1 full 7 6 newins\nt 0 00 0 0 0 167\nt 1 1 0 0 1 168\nh 0 malformed 3\nh 2 memory 5\ns 1 782\nend 9 2\n")
     ≡ Err 6
-unfolding ledger_of ledger over maybe_line many one_line word batch batch_of fault cause edits_reading edit_reading spaces word_length digits encode_with decode_pairs ledger_text ledger_lines batch_text edit_text
+unfolding ledger_of ledger over maybe_line many lines_from one_line word batch batch_of fault cause ledger_text ledger_lines
+    batch_text edit_text beginning timed_reading time_reading edits_reading others_reading another_reading edit_reading readings
+    tempo_reading bpm_reading cell_reading newins_reading u8 u16 u32 next_word spaces word_length digits encode_with decode_pairs
 leading_zero = refl
 
 tick_missing : ledger_of (codes "xmstudio ledger 2\nplay 44100 60 16384 8\nc 1 0 1 tempo 3 ; bpm 140\nr 0 2 edit 0 2 64 64 cell 0 64 0 49 1 0 0 0\nr 1 1 full 7 6 newins\nt 1 1 0 0 1 168\nh 0 malformed 3\nh 2 memory 5\ns 1 782\nend 9 2\n")
     ≡ Err 6
-unfolding ledger_of ledger over maybe_line many one_line word batch batch_of fault cause edits_reading edit_reading spaces word_length digits encode_with decode_pairs ledger_text ledger_lines batch_text edit_text
+unfolding ledger_of ledger over maybe_line many lines_from one_line word batch batch_of fault cause ledger_text ledger_lines
+    batch_text edit_text beginning timed_reading time_reading edits_reading others_reading another_reading edit_reading readings
+    tempo_reading bpm_reading cell_reading newins_reading u8 u16 u32 next_word spaces word_length digits encode_with decode_pairs
 tick_missing = refl
 
 hands_descend : ledger_of (codes "xmstudio ledger 2\nplay 44100 60 16384 8\nc 1 0 1 tempo 3 ; bpm 140\nr 0 2 edit 0 2 64 64 cell 0 64 0 49 1 0 0 0\nr 1 1 full 7 6 newins\nt 0 0 0 0 0 167\nt 1 1 0 0 1 168\nh 2 failed 3\nh 2 memory 5\ns 1 782\nend 9 2\n")
     ≡ Err 9
-unfolding ledger_of ledger over maybe_line many one_line word batch batch_of fault cause edits_reading edit_reading spaces word_length digits encode_with decode_pairs ledger_text ledger_lines batch_text edit_text
+unfolding ledger_of ledger over maybe_line many lines_from one_line word batch batch_of fault cause ledger_text ledger_lines
+    batch_text edit_text beginning timed_reading time_reading edits_reading others_reading another_reading edit_reading readings
+    tempo_reading bpm_reading cell_reading newins_reading u8 u16 u32 next_word spaces word_length digits encode_with decode_pairs
 hands_descend = refl
 
 ticks_counted : ledger_of (codes "xmstudio ledger 2\nplay 44100 60 16384 8\nc 1 0 1 tempo 3 ; bpm 140\nr 0 2 edit 0 2 64 64 cell 0 64 0 49 1 0 0 0\nr 1 1 full 7 6 newins\nt 0 0 0 0 0 167\nt 1 1 0 0 1 168\nh 0 malformed 3\nh 2 memory 5\ns 1 782\nend 9 3\n")
     ≡ Err 11
-unfolding ledger_of ledger over maybe_line many one_line word batch batch_of fault cause edits_reading edit_reading spaces word_length digits encode_with decode_pairs ledger_text ledger_lines batch_text edit_text
+unfolding ledger_of ledger over maybe_line many lines_from one_line word batch batch_of fault cause ledger_text ledger_lines
+    batch_text edit_text beginning timed_reading time_reading edits_reading others_reading another_reading edit_reading readings
+    tempo_reading bpm_reading cell_reading newins_reading u8 u16 u32 next_word spaces word_length digits encode_with decode_pairs
 ticks_counted = refl
 
 no_such_status : ledger_of (codes "xmstudio ledger 2\nplay 44100 60 16384 8\nc 1 0 1 tempo 3 ; bpm 140\nr 0 2 edit 0 2 64 64 cell 0 64 0 49 1 0 0 0\nr 1 1 full 7 6 newins\nt 0 0 0 0 0 167\nt 1 1 0 0 1 168\nh 0 malformed 3\nh 2 memory 5\ns 1 782\nend 6 2\n")
     ≡ Err 11
-unfolding ledger_of ledger over maybe_line many one_line word batch batch_of fault cause edits_reading edit_reading spaces word_length digits encode_with decode_pairs ledger_text ledger_lines batch_text edit_text
+unfolding ledger_of ledger over maybe_line many lines_from one_line word batch batch_of fault cause ledger_text ledger_lines
+    batch_text edit_text beginning timed_reading time_reading edits_reading others_reading another_reading edit_reading readings
+    tempo_reading bpm_reading cell_reading newins_reading u8 u16 u32 next_word spaces word_length digits encode_with decode_pairs
 no_such_status = refl
 
 no_end : ledger_of (codes "xmstudio ledger 2\nplay 44100 60 16384 8\nc 1 0 1 tempo 3 ; bpm 140\nr 0 2 edit 0 2 64 64 cell 0 64 0 49 1 0 0 0\nr 1 1 full 7 6 newins\nt 0 0 0 0 0 167\nt 1 1 0 0 1 168\nh 0 malformed 3\nh 2 memory 5\ns 1 782\n")
     ≡ Err 11
-unfolding ledger_of ledger over maybe_line many one_line word batch batch_of fault cause edits_reading edit_reading spaces word_length digits encode_with decode_pairs ledger_text ledger_lines batch_text edit_text
+unfolding ledger_of ledger over maybe_line many lines_from one_line word batch batch_of fault cause ledger_text ledger_lines
+    batch_text edit_text beginning timed_reading time_reading edits_reading others_reading another_reading edit_reading readings
+    tempo_reading bpm_reading cell_reading newins_reading u8 u16 u32 next_word spaces word_length digits encode_with decode_pairs
 no_end = refl
 
 no_last_lf : ledger_of (codes "xmstudio ledger 2\nplay 44100 60 16384 8\nc 1 0 1 tempo 3 ; bpm 140\nr 0 2 edit 0 2 64 64 cell 0 64 0 49 1 0 0 0\nr 1 1 full 7 6 newins\nt 0 0 0 0 0 167\nt 1 1 0 0 1 168\nh 0 malformed 3\nh 2 memory 5\ns 1 782\nend 9 2")
     ≡ Err 11
-unfolding ledger_of ledger over maybe_line many one_line word batch batch_of fault cause edits_reading edit_reading spaces word_length digits encode_with decode_pairs ledger_text ledger_lines batch_text edit_text
+unfolding ledger_of ledger over maybe_line many lines_from one_line word batch batch_of fault cause ledger_text ledger_lines
+    batch_text edit_text beginning timed_reading time_reading edits_reading others_reading another_reading edit_reading readings
+    tempo_reading bpm_reading cell_reading newins_reading u8 u16 u32 next_word spaces word_length digits encode_with decode_pairs
 no_last_lf = refl
 
 more_behind : ledger_of (codes "xmstudio ledger 2\nplay 44100 60 16384 8\nc 1 0 1 tempo 3 ; bpm 140\nr 0 2 edit 0 2 64 64 cell 0 64 0 49 1 0 0 0\nr 1 1 full 7 6 newins\nt 0 0 0 0 0 167\nt 1 1 0 0 1 168\nh 0 malformed 3\nh 2 memory 5\ns 1 782\nend 9 2\nx")
     ≡ Err 12
-unfolding ledger_of ledger over maybe_line many one_line word batch batch_of fault cause edits_reading edit_reading spaces word_length digits encode_with decode_pairs ledger_text ledger_lines batch_text edit_text
+unfolding ledger_of ledger over maybe_line many lines_from one_line word batch batch_of fault cause ledger_text ledger_lines
+    batch_text edit_text beginning timed_reading time_reading edits_reading others_reading another_reading edit_reading readings
+    tempo_reading bpm_reading cell_reading newins_reading u8 u16 u32 next_word spaces word_length digits encode_with decode_pairs
 more_behind = refl
 
 another_line : ledger_of (codes "xmstudio ledger 2\nplay 44100 60 16384 8\nc 1 0 1 tempo 3 ; bpm 140\nr 0 2 edit 0 2 64 64 cell 0 64 0 49 1 0 0 0\nr 1 1 full 7 6 newins\nt 0 0 0 0 0 167\nt 1 1 0 0 1 168\nh 0 malformed 3\nh 2 memory 5\ns 1 782\nend 9 2\nend 9 2\n")
     ≡ Err 12
-unfolding ledger_of ledger over maybe_line many one_line word batch batch_of fault cause edits_reading edit_reading spaces word_length digits encode_with decode_pairs ledger_text ledger_lines batch_text edit_text
+unfolding ledger_of ledger over maybe_line many lines_from one_line word batch batch_of fault cause ledger_text ledger_lines
+    batch_text edit_text beginning timed_reading time_reading edits_reading others_reading another_reading edit_reading readings
+    tempo_reading bpm_reading cell_reading newins_reading u8 u16 u32 next_word spaces word_length digits encode_with decode_pairs
 another_line = refl
 
 trailing_space : ledger_of (codes "xmstudio ledger 2\nplay 44100 60 16384 8\nc 1 0 1 tempo 3 \nr 0 2 edit 0 2 64 64 cell 0 64 0 49 1 0 0 0\nr 1 1 full 7 6 newins\nt 0 0 0 0 0 167\nt 1 1 0 0 1 168\nh 0 malformed 3\nh 2 memory 5\ns 1 782\nend 9 2\n")
     ≡ Err 3
-unfolding ledger_of ledger over maybe_line many one_line word batch batch_of fault cause edits_reading edit_reading spaces word_length digits encode_with decode_pairs ledger_text ledger_lines batch_text edit_text
+unfolding ledger_of ledger over maybe_line many lines_from one_line word batch batch_of fault cause ledger_text ledger_lines
+    batch_text edit_text beginning timed_reading time_reading edits_reading others_reading another_reading edit_reading readings
+    tempo_reading bpm_reading cell_reading newins_reading u8 u16 u32 next_word spaces word_length digits encode_with decode_pairs
 trailing_space = refl
 
 space_in_a_batch : ledger_of (codes "xmstudio ledger 2\nplay 44100 60 16384 8\nc 1 0 1 tempo 3 ;  bpm 140\nr 0 2 edit 0 2 64 64 cell 0 64 0 49 1 0 0 0\nr 1 1 full 7 6 newins\nt 0 0 0 0 0 167\nt 1 1 0 0 1 168\nh 0 malformed 3\nh 2 memory 5\ns 1 782\nend 9 2\n")
     ≡ Err 3
-unfolding ledger_of ledger over maybe_line many one_line word batch batch_of fault cause edits_reading edit_reading spaces word_length digits encode_with decode_pairs ledger_text ledger_lines batch_text edit_text
+unfolding ledger_of ledger over maybe_line many lines_from one_line word batch batch_of fault cause ledger_text ledger_lines
+    batch_text edit_text beginning timed_reading time_reading edits_reading others_reading another_reading edit_reading readings
+    tempo_reading bpm_reading cell_reading newins_reading u8 u16 u32 next_word spaces word_length digits encode_with decode_pairs
 space_in_a_batch = refl
 
 no_edit : ledger_of (codes "xmstudio ledger 2\nplay 44100 60 16384 8\nc 1 0 1 \nr 0 2 edit 0 2 64 64 cell 0 64 0 49 1 0 0 0\nr 1 1 full 7 6 newins\nt 0 0 0 0 0 167\nt 1 1 0 0 1 168\nh 0 malformed 3\nh 2 memory 5\ns 1 782\nend 9 2\n")
     ≡ Err 3
-unfolding ledger_of ledger over maybe_line many one_line word batch batch_of fault cause edits_reading edit_reading spaces word_length digits encode_with decode_pairs ledger_text ledger_lines batch_text edit_text
+unfolding ledger_of ledger over maybe_line many lines_from one_line word batch batch_of fault cause ledger_text ledger_lines
+    batch_text edit_text beginning timed_reading time_reading edits_reading others_reading another_reading edit_reading readings
+    tempo_reading bpm_reading cell_reading newins_reading u8 u16 u32 next_word spaces word_length digits encode_with decode_pairs
 no_edit = refl
 
 a_time : ledger_of (codes "xmstudio ledger 2\nplay 44100 60 16384 8\nc 1 0 1 at 1 tempo 3\nr 0 2 edit 0 2 64 64 cell 0 64 0 49 1 0 0 0\nr 1 1 full 7 6 newins\nt 0 0 0 0 0 167\nt 1 1 0 0 1 168\nh 0 malformed 3\nh 2 memory 5\ns 1 782\nend 9 2\n")
     ≡ Err 3
-unfolding ledger_of ledger over maybe_line many one_line word batch batch_of fault cause edits_reading edit_reading spaces word_length digits encode_with decode_pairs ledger_text ledger_lines batch_text edit_text
+unfolding ledger_of ledger over maybe_line many lines_from one_line word batch batch_of fault cause ledger_text ledger_lines
+    batch_text edit_text beginning timed_reading time_reading edits_reading others_reading another_reading edit_reading readings
+    tempo_reading bpm_reading cell_reading newins_reading u8 u16 u32 next_word spaces word_length digits encode_with decode_pairs
 a_time = refl

@@ -11,3 +11,5 @@ pub mod Names
 pub mod Skipped
 pub mod Joined
 mod LedgerWorked
+pub mod Cuts
+pub mod ManyLines

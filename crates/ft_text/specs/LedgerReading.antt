@@ -1,6 +1,6 @@
 -- How a ledger is read: line by line from the front, up to the first line that can't stand there.
 -- The bytes are cut at each LF, so all parts but the last are lines, and the last has to be empty.
-use Rattle.std.specs.Prelude.{◌≡◌, ℕ, suc, ◌+◌, ◌==◌, Bool, true, false, List, [], ◌∷◌, length, min, Option, Some, None, Result, Ok, Err, if◌then◌else◌}
+use Rattle.std.specs.Prelude.{ℕ, suc, ◌+◌, ◌==◌, Bool, true, false, List, [], ◌∷◌, length, min, Option, Some, None, Result, Ok, Err, if◌then◌else◌}
 use Rattle.std.specs.List.{slice_split}
 use Rattle.ft_text.specs.LedgerWords.{said, head, play, entry, refusal, tick, hand, saved, end}
 use Rattle.ft_text.specs.Record.{Account}
@@ -14,15 +14,20 @@ pub record Place : Type 0 where
 abbrev pub Reading : Type 0 → Type 0
 Reading A = Place → Result (A × Place) ℕ
 
+-- the number of the line behind so many, from 1; the greatest u32 stands for any from there on
+abbrev pub line_number : ℕ → ℕ
+line_number before = min (before + 1) 4294967295
+
 -- a value, and the place behind its line; or that this line is wrong
 abbrev pub line_or_wrong : {A : Type 0} → ℕ → List (List ℕ) → Option A → Result (A × Place) ℕ
-line_or_wrong at rest None = Err (at + 1)
+line_or_wrong at rest None = Err (line_number at)
 line_or_wrong at rest (Some x) = Ok (x, record { at = at + 1; left = rest })
 
+-- a line is a part with another behind it
 abbrev pub line_at : {A : Type 0} → (List ℕ → Option A) → ℕ → List (List ℕ) → Result (A × Place) ℕ
-line_at value at [] = Err (at + 1)
-line_at value at (unended ∷ []) = Err (at + 1)
-line_at value at (line ∷ next ∷ rest) = line_or_wrong at (next ∷ rest) (value line)
+line_at value at [] = Err (line_number at)
+line_at value at (line ∷ rest) =
+    if length rest == 0 then Err (line_number at) else line_or_wrong at rest (value line)
 
 -- a line that has to be there, and say something
 unfoldable pub one_line : {A : Type 0} → (List ℕ → Option A) → Reading A
@@ -31,17 +36,17 @@ one_line value p = line_at value p.at p.left
 abbrev pub also : {A : Type 0} → A → List A × List (List ℕ) → List A × List (List ℕ)
 also x read = (x ∷ read.0, read.1)
 
--- the values of lines as far as they have one, and the parts behind them. Which values a line may
--- have depends on a state, which each value moves on
 abbrev pub while_some : {A : Type 0} → List (List ℕ) → Option A → (A → List A × List (List ℕ)) → List A × List (List ℕ)
 while_some here None more = ([], here)
 while_some here (Some x) more = also x (more x)
 
-abbrev pub lines_from : {S A : Type 0} → (S → List ℕ → Option A) → (S → A → S) → S → List (List ℕ) → List A × List (List ℕ)
+-- the values of lines as far as they have one, and the parts behind them. Which value a line may
+-- have depends on a state, which each value moves on
+unfoldable pub lines_from : {S A : Type 0} → (S → List ℕ → Option A) → (S → A → S) → S → List (List ℕ) → List A × List (List ℕ)
 lines_from value moved state [] = ([], [])
-lines_from value moved state (unended ∷ []) = ([], unended ∷ [])
-lines_from value moved state (line ∷ next ∷ rest) =
-    while_some (line ∷ next ∷ rest) (value state line) (λ x. lines_from value moved (moved state x) (next ∷ rest))
+lines_from value moved state (line ∷ rest) =
+    if length rest == 0 then ([], line ∷ rest)
+    else while_some (line ∷ rest) (value state line) (λ x. lines_from value moved (moved state x) rest)
 
 unfoldable pub many : {S A : Type 0} → (S → List ℕ → Option A) → (S → A → S) → S → Reading (List A)
 many value moved state p =
@@ -67,7 +72,7 @@ is_end _ = false
 
 -- nothing more
 unfoldable pub over : {A : Type 0} → A → Reading A
-over x p = if is_end p.left then Ok (x, p) else Err (p.at + 1)
+over x p = if is_end p.left then Ok (x, p) else Err (line_number p.at)
 
 abbrev pub follow : {A B : Type 0} → (A → Reading B) → Result (A × Place) ℕ → Result (B × Place) ℕ
 follow next (Ok read) = next read.0 read.1
@@ -104,7 +109,7 @@ value_only (Err line) = Err line
 abbrev pub start_of : List ℕ → Place
 start_of bytes = record { at = 0; left = slice_split (λ b. b == 10) bytes }
 
--- what bytes tell as a ledger, or the first line, from 1, that can't stand there; where a line is
--- missing at the end it is the one behind the last
+-- what bytes tell as a ledger, or the first line that can't stand there; where a line is missing at
+-- the end it is the one behind the last
 unfoldable pub ledger_of : List ℕ → Result Account ℕ
 ledger_of bytes = value_only (ledger (start_of bytes))

@@ -11,3 +11,4 @@ pub mod Record
 pub mod Ledger
 pub mod LedgerWords
 pub mod LedgerReading
+pub mod LedgerAnswers

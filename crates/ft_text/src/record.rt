@@ -1,5 +1,8 @@
 //! What a ledger tells of a run.
 
+ghost use Rattle.std.specs.Prelude.{◌≡◌};
+ghost use Rattle.ft_text.specs.declared.record.LedgerFault.TheVariants.{NoMemory as no_memory};
+
 use ft_types::{Items, Journal, Ticks};
 use thiserror::Error;
 
@@ -70,4 +73,12 @@ pub enum LedgerFault {
     /// Memory was wanting. No clause says when.
     #[error("out of memory")]
     NoMemory,
+}
+
+impl From<ft_types::NoMemory> for LedgerFault {
+    ghost from_gives = { λ _ fault. fault ≡ no_memory };
+
+    fn from(_wanting: ft_types::NoMemory) -> LedgerFault {
+        LedgerFault::NoMemory
+    }
 }
