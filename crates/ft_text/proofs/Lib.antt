@@ -13,3 +13,4 @@ pub mod Joined
 mod LedgerWorked
 pub mod Cuts
 pub mod ManyLines
+pub mod Pushed

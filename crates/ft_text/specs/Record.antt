@@ -39,11 +39,21 @@ abbrev pub Ascend : ℕ → List HandEnd → Type 0
 Ascend least [] = Unit {0}
 Ascend least (end ∷ ends) = (least ≤ end.hand) × Ascend (end.hand + 1) ends
 
+-- a batch as hands give them: each paste has 1 to 256 frames
+abbrev pub CanBeEntered : Entry → Type 0
+CanBeEntered entry = All IsGivable entry.batch
+
+-- the same, and want of memory is never told
+abbrev pub CanBeRefused : Refusal → Type 0
+CanBeRefused refusal = All IsGivable refusal.batch × (refusal.cause ≢ faults.NoMemory)
+
+abbrev pub HasCause : HandEnd → Type 0
+HasCause end = (1 ≤ end.cause) × (end.cause ≤ 4)
+
 -- an account that can be told
 pub record IsTellable (account : Account) : Type 0 where
   pub status : IsTold account.run.status
-  pub committed : All (λ entry. All IsGivable entry.batch) account.entries
-  pub refused : All (λ refusal. All IsGivable refusal.batch) account.refusals
-  pub causes : All (λ refusal. refusal.cause ≢ faults.NoMemory) account.refusals
-  pub hands : Ascend 0 account.hands
-  pub hand_causes : All (λ end. (1 ≤ end.cause) × (end.cause ≤ 4)) account.hands
+  pub entries : All CanBeEntered account.entries
+  pub refusals : All CanBeRefused account.refusals
+  pub ascending : Ascend 0 account.hands
+  pub causes : All HasCause account.hands

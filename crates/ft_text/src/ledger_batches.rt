@@ -1,6 +1,9 @@
 //! The lines of a ledger that have edits.
 
-ghost use Rattle.std.specs.Prelude.{◌≡◌, ◌≤◌, ◌∷◌, [], ◌++◌, length, IfOk, OnOk, OnErr, MatchBool};
+ghost use Rattle.std.specs.Prelude.{◌≡◌, ◌≤◌, ◌∷◌, [], ◌++◌, length, All, IfOk, IfSome, MatchBool};
+ghost use Rattle.std.specs.Bool.{OnTrue};
+ghost use Rattle.ft_types.specs.Edits.{IsGivable};
+ghost use Rattle.ft_text.specs.Record.{CanBeEntered, CanBeRefused};
 ghost use Rattle.std.specs.Option.{option_copied};
 ghost use Rattle.ft_text.specs.Lines.{line_of};
 ghost use Rattle.ft_text.specs.LedgerWords.{said, one_edit, each_edit, batch_of, most_edits, entry, refusal};
@@ -17,7 +20,8 @@ use std::alloc::Global;
 
 /// The edit of a part, without a time.
 fn edit_of(alloc: Global, part: &[u8]) -> Result<Option<Edit>, NoMemory>
-    ensures { IfOk result (λ edit. edit ≡ one_edit (line_of 0 part.now)) }
+    ensures value { IfOk result (λ edit. edit ≡ one_edit (line_of 0 part.now)) }
+    ensures givable { IfOk result (λ edit. IfSome edit IsGivable) }
 {
     match read_edit(alloc, part) {
         Ok(Some(Timed { at: None, edit })) => Ok(Some(edit)),
@@ -28,10 +32,14 @@ fn edit_of(alloc: Global, part: &[u8]) -> Result<Option<Edit>, NoMemory>
 }
 
 /// Puts an edit behind others, unless there are 16.
+#[tactic(auto, using(crate::proofs::Pushed::all_pushed))]
 fn push(batch: &mut Batch, edit: Edit) -> Result<bool, NoMemory>
-    ensures { IfOk result (λ put. MatchBool put
+    requires old { All IsGivable batch.old }
+    requires new { IsGivable edit }
+    ensures put { IfOk result (λ put. MatchBool put
         ((batch.new ≡ batch.old ++ edit ∷ []) × (length batch.new ≤ 16))
         (16 ≤ length batch.old)) }
+    ensures givable { IfOk result (λ put. OnTrue put (All IsGivable batch.new)) }
 {
     match batch.push(edit) {
         Ok(()) => Ok(true),
@@ -43,10 +51,12 @@ fn push(batch: &mut Batch, edit: Edit) -> Result<bool, NoMemory>
 /// Puts the edits of the parts that are left behind the first, unless one of them isn't an edit or
 /// they are too many.
 fn others(alloc: Global, batch: &mut Batch, parts: Option<&[u8]>) -> Result<bool, NoMemory>
-    requires { length batch.old ≤ 16 }
-    ensures { IfOk result (λ put.
+    requires few { length batch.old ≤ 16 }
+    requires givable { All IsGivable batch.old }
+    ensures put { IfOk result (λ put.
         let edits = few (behind batch.old (each_edit (parts_of 59 (option_copied parts.entry)))) in
         MatchBool put (edits ≡ Some batch.new) (edits ≡ None)) }
+    ensures givable { IfOk result (λ put. OnTrue put (All IsGivable batch.new)) }
 {
     let mut left = parts;
     while let Some((part, rest)) = next_of(left, b';') {
@@ -62,8 +72,11 @@ fn others(alloc: Global, batch: &mut Batch, parts: Option<&[u8]>) -> Result<bool
 }
 
 /// The edits of all parts between `;`.
+#[tactic(auto, using(crate::proofs::Pushed::all_alone))]
 fn edits_of(alloc: Global, text: &[u8]) -> Result<Option<Batch>, NoMemory>
-    ensures { IfOk result (λ batch. batch ≡ few (each_edit (parts_of 59 (Some text.now)))) }
+    ensures value { IfOk result (λ batch.
+        batch ≡ few (each_edit (parts_of 59 (Some text.now)))) }
+    ensures givable { IfOk result (λ batch. IfSome batch (All IsGivable)) }
 {
     let Some((part, rest)) = next_of(Some(text), b';') else {
         return Ok(None);
@@ -83,7 +96,8 @@ fn edits_of(alloc: Global, text: &[u8]) -> Result<Option<Batch>, NoMemory>
 #[tactic(auto, unfolding(crate::specs::LedgerWords::batch_of))]
 fn batch_of(alloc: Global, most: usize, text: &[u8]) -> Result<Option<Batch>, NoMemory>
     requires { most ≤ 16 }
-    ensures { IfOk result (λ batch. batch ≡ batch_of most text.now) }
+    ensures value { IfOk result (λ batch. batch ≡ batch_of most text.now) }
+    ensures givable { IfOk result (λ batch. IfSome batch (All IsGivable)) }
 {
     let Some(batch) = edits_of(alloc, text)? else {
         return Ok(None);
@@ -110,7 +124,8 @@ fn most_edits(form: u8) -> usize
 /// The line of a batch that was committed.
 #[tactic(auto, unfolding(crate::specs::LedgerWords::batch))]
 pub fn entry_of(alloc: Global, form: u8, line: &[u8]) -> Result<Option<Entry>, NoMemory>
-    ensures { IfOk result (λ found. found ≡ said (entry form) line.now) }
+    ensures value { IfOk result (λ found. found ≡ said (entry form) line.now) }
+    ensures given { IfOk result (λ found. IfSome found CanBeEntered) }
 {
     let mut words = Words::new(line);
     let Some(()) = words.this("c") else {
@@ -139,7 +154,8 @@ pub fn entry_of(alloc: Global, form: u8, line: &[u8]) -> Result<Option<Entry>, N
 /// The line of a batch that was refused.
 #[tactic(auto, unfolding(crate::specs::LedgerWords::batch))]
 pub fn refusal_of(alloc: Global, form: u8, line: &[u8]) -> Result<Option<Refusal>, NoMemory>
-    ensures { IfOk result (λ found. found ≡ said (refusal form) line.now) }
+    ensures value { IfOk result (λ found. found ≡ said (refusal form) line.now) }
+    ensures given { IfOk result (λ found. IfSome found CanBeRefused) }
 {
     let mut words = Words::new(line);
     let Some(()) = words.this("r") else {

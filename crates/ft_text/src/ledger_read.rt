@@ -1,7 +1,7 @@
 //! A ledger, read.
 
-ghost use Rattle.std.specs.Prelude.{◌≡◌, ◌+◌, [], suc, IfOk, OnOk, MatchResult, Ok};
-ghost use Rattle.ft_text.specs.Record.{account_of};
+ghost use Rattle.std.specs.Prelude.{◌≡◌, ◌+◌, [], suc, All, IfOk, OnOk, MatchResult, Ok};
+ghost use Rattle.ft_text.specs.Record.{account_of, Ascend, CanBeEntered, CanBeRefused, HasCause, IsTold, IsTellable};
 ghost use Rattle.ft_text.specs.LedgerWords.{said, head, play, entry, refusal, tick, hand, saved, end};
 ghost use Rattle.ft_text.specs.LedgerReading.{one_line, many, lines_of, maybe_line, ledger_of};
 ghost use Rattle.ft_text.specs.LedgerAnswers.{Reads, Fails};
@@ -54,6 +54,7 @@ fn entries(
     ensures read { OnOk result (lines_of (said (entry form)) lines.old ≡
         Ok (journal.new.entries, lines.new)) }
     ensures refusals { OnOk result (journal.new.refusals ≡ journal.old.refusals) }
+    ensures given { OnOk result (All CanBeEntered journal.new.entries) }
 {
     while let Some((line, next)) = lines.ahead() {
         let Some(entry) = entry_of(alloc, form, line)? else {
@@ -77,6 +78,7 @@ fn refusals(
     ensures read { OnOk result (lines_of (said (refusal form)) lines.old ≡
         Ok (journal.new.refusals, lines.new)) }
     ensures entries { OnOk result (journal.new.entries ≡ journal.old.entries) }
+    ensures given { OnOk result (All CanBeRefused journal.new.refusals) }
 {
     while let Some((line, next)) = lines.ahead() {
         let Some(refusal) = refusal_of(alloc, form, line)? else {
@@ -107,9 +109,11 @@ fn ticks(alloc: Global, lines: &mut Lines) -> Result<Vec<TickReport>, NoMemory>
 
 /// The lines of hands that ended early, ascending.
 fn hands(alloc: Global, lines: &mut Lines) -> Result<Vec<HandEnd>, NoMemory>
-    ensures { IfOk result (λ hands.
+    ensures read { IfOk result (λ hands.
         many (λ least. said (hand least)) (λ least end. end.hand + 1) 0 lines.old ≡
         Ok (hands.items, lines.new)) }
+    ensures ascending { IfOk result (λ hands. Ascend 0 hands.items) }
+    ensures causes { IfOk result (λ hands. All HasCause hands.items) }
 {
     let mut hands = Vec::new(alloc);
     let mut least = 0u16;
@@ -142,8 +146,9 @@ fn saved(form: u8, lines: &mut Lines) -> Option<SavedLine>
 /// The last line: how the run ended, behind so many ticks.
 #[tactic(auto, unfolding(crate::specs::LedgerReading::one_line))]
 fn end(form: u8, ticks: usize, lines: &mut Lines) -> Result<u8, LedgerFault>
-    ensures { Reads (λ status. status) result lines.new
+    ensures read { Reads (λ status. status) result lines.new
         (one_line (said (end form ticks)) lines.old) }
+    ensures told { IfOk result IsTold }
 {
     let Some((line, next)) = lines.ahead() else {
         return Err(lines.wrong());
@@ -161,9 +166,11 @@ fn end(form: u8, ticks: usize, lines: &mut Lines) -> Result<u8, LedgerFault>
 /// the other fault is want of memory.
 #[tactic(auto, unfolding(crate::specs::LedgerReading::ledger_of, crate::specs::LedgerReading::ledger, crate::specs::LedgerReading::over))]
 pub fn read_ledger(alloc: Global, bytes: &[u8]) -> Result<Record, LedgerFault>
-    ensures { MatchResult result
+    ensures read { MatchResult result
         (λ r. ledger_of bytes.now ≡ Ok (account_of r.run r.journal r.ticks r.hands r.saved))
         (λ fault. Fails fault (ledger_of bytes.now)) }
+    ensures tellable { IfOk result (λ r.
+        IsTellable (account_of r.run r.journal r.ticks r.hands r.saved)) }
 {
     let mut lines = Lines::new(bytes);
     let form = head(&mut lines)?;

@@ -1,6 +1,7 @@
 //! What each line of a ledger says, word by word.
 
-ghost use Rattle.std.specs.Prelude.{◌≡◌, codes};
+ghost use Rattle.std.specs.Prelude.{◌≡◌, ◌≢◌, ◌≤◌, codes, IfSome};
+ghost use Rattle.ft_text.specs.Record.{HasCause, IsTold};
 ghost use Rattle.ft_text.specs.LedgerAnswers.{Takes};
 ghost use Rattle.ft_text.specs.LedgerWords.{said, head, play, no_pattern, no_row, no_channel, no_order, no_instrument, range, too_many, no_sample, cut, fault_by, fault, place, edit_cause, worn_cause, full_cause, cause, tick, hand, saved, end};
 
@@ -135,7 +136,8 @@ fn place(words: &mut Words, form: u8) -> Option<u8>
 
 /// A batch that was refused for an edit.
 fn edit_cause(words: &mut Words, form: u8) -> Option<CommitFault>
-    ensures { Takes (λ cause. cause) result words.new (edit_cause form words.old) }
+    ensures value { Takes (λ cause. cause) result words.new (edit_cause form words.old) }
+    ensures told { IfSome result (λ cause. cause ≢ CommitFault.NoMemory) }
 {
     let at = place(words, form)?;
     let fault = fault(words)?;
@@ -144,7 +146,8 @@ fn edit_cause(words: &mut Words, form: u8) -> Option<CommitFault>
 
 /// A batch that was refused for want of segments.
 fn full_cause(words: &mut Words) -> Option<CommitFault>
-    ensures { Takes (λ cause. cause) result words.new (full_cause words.old) }
+    ensures value { Takes (λ cause. cause) result words.new (full_cause words.old) }
+    ensures told { IfSome result (λ cause. cause ≢ CommitFault.NoMemory) }
 {
     let need = words.u32()?;
     let free = words.u32()?;
@@ -154,7 +157,8 @@ fn full_cause(words: &mut Words) -> Option<CommitFault>
 /// Why a batch was refused.
 #[tactic(auto, unfolding(crate::specs::LedgerWords::cause, crate::specs::LedgerWords::word))]
 pub fn cause(words: &mut Words, form: u8) -> Option<CommitFault>
-    ensures { Takes (λ cause. cause) result words.new (cause form words.old) }
+    ensures value { Takes (λ cause. cause) result words.new (cause form words.old) }
+    ensures told { IfSome result (λ cause. cause ≢ CommitFault.NoMemory) }
 {
     let name = words.next()?;
     if name == "edit".as_bytes() {
@@ -201,7 +205,9 @@ pub fn tick_of(n: usize, line: &[u8]) -> Option<TickReport>
 
 /// A hand that ended early, whose number is at least `least`.
 fn hand(words: &mut Words, least: u16) -> Option<HandEnd>
-    ensures { Takes (λ end. end) result words.new (hand least words.old) }
+    ensures value { Takes (λ end. end) result words.new (hand least words.old) }
+    ensures from { IfSome result (λ end. least ≤ end.hand) }
+    ensures cause { IfSome result HasCause }
 {
     words.this("h")?;
     let hand = words.hand_from(least)?;
@@ -212,7 +218,9 @@ fn hand(words: &mut Words, least: u16) -> Option<HandEnd>
 
 /// The line of a hand whose number is at least `least`.
 pub fn hand_of(least: u16, line: &[u8]) -> Option<HandEnd>
-    ensures { result ≡ said (hand least) line.now }
+    ensures value { result ≡ said (hand least) line.now }
+    ensures from { IfSome result (λ end. least ≤ end.hand) }
+    ensures cause { IfSome result HasCause }
 {
     let mut words = Words::new(line);
     let end = hand(&mut words, least)?;
@@ -240,7 +248,8 @@ pub fn saved_of(form: u8, line: &[u8]) -> Option<SavedLine>
 
 /// How the run ended, behind so many ticks.
 fn end(words: &mut Words, form: u8, ticks: usize) -> Option<u8>
-    ensures { Takes (λ status. status) result words.new (end form ticks words.old) }
+    ensures value { Takes (λ status. status) result words.new (end form ticks words.old) }
+    ensures told { IfSome result IsTold }
 {
     words.this("end")?;
     let status = words.status(form)?;
@@ -250,7 +259,8 @@ fn end(words: &mut Words, form: u8, ticks: usize) -> Option<u8>
 
 /// The last line.
 pub fn end_of(form: u8, ticks: usize, line: &[u8]) -> Option<u8>
-    ensures { result ≡ said (end form ticks) line.now }
+    ensures value { result ≡ said (end form ticks) line.now }
+    ensures told { IfSome result IsTold }
 {
     let mut words = Words::new(line);
     let status = end(&mut words, form, ticks)?;

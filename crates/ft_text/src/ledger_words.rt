@@ -1,7 +1,9 @@
 //! The words of a ledger's line, taken from the left.
 
 ghost use Rattle.std.specs.Prelude.{◌≡◌, ◌==◌, ◌<◌, ◌≤◌, [], ◌∷◌, length, codes, decimal, MatchOption, IfSome};
+ghost use Rattle.std.specs.Bool.{OnTrue};
 ghost use Rattle.std.specs.Option.{option_copied};
+ghost use Rattle.ft_text.specs.Record.{IsTold};
 ghost use Rattle.std.specs.List.{slice_split, position_or_len, join_with_byte};
 ghost use Rattle.ft_text.specs.Values.{number_of, signed_of};
 ghost use Rattle.ft_text.specs.Edits.{named};
@@ -109,7 +111,8 @@ impl<'a> Words<'a> {
 
 /// Whether a ledger of this form may end with this status.
 fn is_told(form: u8, status: u8) -> bool
-    ensures { result ≡ is_told form status }
+    ensures value { result ≡ is_told form status }
+    ensures told { OnTrue result (IsTold status) }
 {
     match status {
         0 | 5 | 8 | 9 => true,
@@ -211,7 +214,8 @@ impl<'a> Words<'a> {
     /// A hand's number that is at least so much.
     #[tactic(auto, unfolding(crate::specs::LedgerWords::word))]
     pub fn hand_from(&mut self, least: u16) -> Option<u8>
-        ensures { Takes (λ hand. hand) result self.new (word (hand_from least) self.old) }
+        ensures value { Takes (λ hand. hand) result self.new (word (hand_from least) self.old) }
+        ensures from { IfSome result (λ hand. least ≤ hand) }
     {
         let word = self.next()?;
         let hand = number(word, 255)?;
@@ -225,7 +229,8 @@ impl<'a> Words<'a> {
     /// How a hand ended early.
     #[tactic(auto, unfolding(crate::specs::LedgerWords::word))]
     pub fn hand_cause(&mut self) -> Option<u8>
-        ensures { Takes (λ cause. cause) result self.new (word (named hand_causes) self.old) }
+        ensures value { Takes (λ cause. cause) result self.new (word (named hand_causes) self.old) }
+        ensures cause { IfSome result (λ cause. (1 ≤ cause) × (cause ≤ 4)) }
     {
         let name = self.next()?;
         if name == "malformed".as_bytes() {
@@ -262,7 +267,8 @@ impl<'a> Words<'a> {
     /// A status that a ledger of this form may end with.
     #[tactic(auto, unfolding(crate::specs::LedgerWords::word))]
     pub fn status(&mut self, form: u8) -> Option<u8>
-        ensures { Takes (λ status. status) result self.new (word (status_of form) self.old) }
+        ensures value { Takes (λ status. status) result self.new (word (status_of form) self.old) }
+        ensures told { IfSome result IsTold }
     {
         let word = self.next()?;
         let status = number(word, 255)?;
