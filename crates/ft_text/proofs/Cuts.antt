@@ -1,5 +1,5 @@
 -- Bytes cut at each one like this.
-use Rattle.std.proofs.Common.{◌≡◌, ℕ, suc, ◌+◌, ◌-◌, ◌==◌, ◌<◌, List, [], ◌∷◌, length, take, drop, Bool, true, false, inl, inr, not, Option, Some, None, Bor, refl, sym, ap, ◌∙◌, arith, add-one}
+use Rattle.std.proofs.Common.{◌≡◌, ℕ, ◌+◌, ◌-◌, ◌==◌, ◌<◌, List, [], ◌∷◌, length, take, drop, Bool, true, false, inl, inr, not, Option, Some, None, Bor, refl, sym, ap, ◌∙◌, arith}
 use Rattle.std.specs.List.{slice_split, onto_first, position_or_len, join_with_byte}
 use Rattle.std.specs.Option.{option_copied, is_some}
 use Rattle.std.proofs.lemmas.Bool.{ne_eqb, cases_Bool}

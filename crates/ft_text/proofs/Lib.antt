@@ -14,3 +14,10 @@ mod LedgerWorked
 pub mod Cuts
 pub mod ManyLines
 pub mod Pushed
+pub mod PlainBytes
+pub mod SplitsBack
+pub mod LedgerLinesBack
+pub mod LedgerPartsBack
+pub mod LedgerLines
+pub mod LedgerWhole
+pub mod BatchesBack

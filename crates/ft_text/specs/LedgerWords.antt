@@ -1,5 +1,5 @@
 -- What a line of a ledger says: it is cut at each space, and its words are taken from the left.
-use Rattle.std.specs.Prelude.{ℕ, ◌==◌, ◌&&◌, ◌||◌, not, Bool, List, [], ◌∷◌, length, nat_le, bytes_eq, codes, decimal, Option, Some, None, Result, Ok, Err, if◌then◌else◌}
+use Rattle.std.specs.Prelude.{ℕ, ◌==◌, ◌&&◌, ◌||◌, not, Bool, List, [], ◌∷◌, length, nat_le, bytes_eq, codes, decimal, Option, Some, None, Result, Ok, if◌then◌else◌}
 use Rattle.std.specs.List.{slice_split, join_with_byte}
 use Rattle.ft_types.specs.declared.edit.Edit.{Edit}
 use Rattle.ft_types.specs.declared.edit_fault.EditFault.{EditFault}

@@ -12,3 +12,4 @@ pub mod Ledger
 pub mod LedgerWords
 pub mod LedgerReading
 pub mod LedgerAnswers
+pub mod LedgerBack

@@ -1,5 +1,5 @@
 -- the refusal at i has the next line
-use Rattle.std.proofs.Common.{sym, ◌∙◌, ◌<◌, ◌≡◌, length, rules, arith}
+use Rattle.std.proofs.Common.{rules, arith}
 use Rattle.ft_text.specs.Ledger.{refusal_line}
 use Rattle.ft_text.proofs.Joined.{line_more, not_past}
 use Rattle.ft_text.proofs.ledger.put_refusals.Goals as goal

@@ -1,4 +1,4 @@
-use Rattle.std.proofs.Common.{◌≡◌, ◌≤◌, ◌+◌, ◌++◌, ◌∷◌, [], rules, arith, refl, sym, ap, subst, ◌∙◌}
+use Rattle.std.proofs.Common.{◌≡◌, ◌≤◌, ◌+◌, ◌++◌, ◌∷◌, [], rules, arith, sym, ap, subst, ◌∙◌}
 use Rattle.ft_text.specs.Record.{Ascend, HasCause}
 use Rattle.ft_text.proofs.Pushed.{all_pushed, next_hand, next_pushed, ascend_pushed}
 use Rattle.ft_text.proofs.ManyLines.{one_more, none_more, no_line}

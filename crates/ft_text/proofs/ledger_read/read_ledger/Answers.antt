@@ -1,6 +1,6 @@
 -- each part can be told
-use Rattle.std.proofs.Common.{rules, sym, ap, subst, All, ◌∙◌}
-use Rattle.ft_text.specs.Record.{Ascend, CanBeEntered, CanBeRefused, HasCause, IsTold}
+use Rattle.std.proofs.Common.{sym, subst, All}
+use Rattle.ft_text.specs.Record.{Ascend, CanBeEntered, HasCause}
 use Rattle.ft_text.proofs.ledger_read.read_ledger.Goals as goal
 
 pub returns-clause-tellable : goal.returns-clause-tellable

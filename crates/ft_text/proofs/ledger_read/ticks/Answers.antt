@@ -1,4 +1,4 @@
-use Rattle.std.proofs.Common.{rules, arith, refl, sym, ◌∙◌}
+use Rattle.std.proofs.Common.{rules}
 use Rattle.ft_text.proofs.ManyLines.{one_more, none_more, no_line}
 use Rattle.ft_text.proofs.ledger_read.ticks.Goals as goal
 

@@ -1,5 +1,5 @@
 -- what was read so far
-use Rattle.std.proofs.Common.{◌≡◌, ◌+◌, ℕ, suc, length}
+use Rattle.std.proofs.Common.{ℕ, suc, length}
 use Rattle.ft_text.specs.LedgerWords.{said, tick}
 use Rattle.ft_text.proofs.ManyLines.{IsRead}
 use Rattle.ft_text.proofs.ledger_read.ticks.Given as goal

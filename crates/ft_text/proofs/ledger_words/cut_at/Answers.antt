@@ -1,5 +1,5 @@
 use Rattle.ft_text.proofs.Cuts.{not_cut, first_cut}
-use Rattle.std.proofs.Common.{◌∙◌, sym, arith, rules, refl}
+use Rattle.std.proofs.Common.{◌∙◌, sym, arith, refl}
 use Rattle.ft_text.proofs.ledger_words.cut_at.Goals as goal
 
 pub returns-then-i-bytes-clause-parts : goal.returns-then-i-bytes-clause-parts

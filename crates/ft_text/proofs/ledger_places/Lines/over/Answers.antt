@@ -1,6 +1,5 @@
-use Rattle.std.proofs.Common.{◌∙◌, sym, ap, rules}
-use Rattle.ft_text.specs.LedgerReading.{is_end, line_number}
-use Rattle.ft_text.specs.LedgerAnswers.{IsAhead}
+use Rattle.std.proofs.Common.{◌∙◌, sym, ap}
+use Rattle.ft_text.specs.LedgerReading.{is_end}
 use Rattle.ft_text.proofs.Cuts.{not_at_end}
 use Rattle.ft_text.proofs.ledger_places.Lines.over.Goals as goal
 
