@@ -21,3 +21,6 @@ pub mod LedgerPartsBack
 pub mod LedgerLines
 pub mod LedgerWhole
 pub mod BatchesBack
+pub mod WordsExact
+pub mod LinesExact
+pub mod WholeExact

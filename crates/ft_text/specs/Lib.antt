@@ -13,3 +13,4 @@ pub mod LedgerWords
 pub mod LedgerReading
 pub mod LedgerAnswers
 pub mod LedgerBack
+pub mod LedgerExact

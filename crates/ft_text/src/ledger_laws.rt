@@ -1,9 +1,15 @@
 //! Laws of the definitions of ledgers. These functions do nothing; their contracts say what holds.
 
 ghost use Rattle.ft_text.specs.LedgerBack.{LedgersAreReadBack, LedgersDiffer};
+ghost use Rattle.ft_text.specs.LedgerExact.{ReadIsWritten};
 
 /// The ledger of what can be told tells it, so different accounts have different ledgers.
 pub fn ledgers_are_read_back()
     ensures back { LedgersAreReadBack }
     ensures differ { LedgersDiffer }
+{}
+
+/// What is read as a ledger is the ledger of what was read, of form 1 or 2.
+pub fn what_is_read_is_written()
+    ensures { ReadIsWritten }
 {}
