@@ -13,7 +13,7 @@ use Rattle.ft_text.specs.Reading.{Place, give, follow, ◌>>=◌, spaces, is_ove
 use Rattle.ft_text.specs.Edits.{edit_reading}
 use Rattle.ft_text.specs.Lines.{this_word, begins_with_hash, others_reading, edits_reading, time_if, time_reading, timed_reading, value_only, beginning, read_from, line_of}
 use Rattle.ft_text.specs.ReadBack.{HasRanges, IsBatch}
-use Rattle.ft_text.specs.LedgerWords.{one_edit, then_others, each_edit, if_text, batch_of}
+use Rattle.ft_text.specs.LedgerWords.{one_edit, then_others, each_edit, if_text, most_edits, batch_of}
 use Rattle.ft_text.proofs.WordsBack.{place, ends_word, word_is_wrong, still_ends, same_behind_space, not_over_behind_space}
 use Rattle.ft_text.proofs.EditsBack.{IsWritten, is_written}
 use Rattle.ft_text.proofs.LinesBack.{BeginsLine, begins_line, text_is, edit_reads, edit_behind_space, reads_from_its_front, has_no_time}
@@ -180,16 +180,19 @@ each_says x edit (next ∷ edits) says ranges givable =
 
 -- ---- a batch
 
-pub text_gives : (edits : List Edit) → IsBatch edits → TextGives edits
+pub text_gives : (form : ℕ) (edits : List Edit) → IsBatch edits → length edits ≤ most_edits form → TextGives form edits
 unfolding batch_of batch_text
-text_gives [] batch = absurd (omega (arith, batch.some))
-text_gives (edit ∷ edits) batch =
+text_gives form [] batch few = absurd (omega (arith, batch.some))
+text_gives form (edit ∷ edits) batch few =
+    let ranges = All-tail HasRanges edit edits batch.ranges in
+    let givable = All-tail IsGivable edit edits batch.givable in
     let w = is_written edit (All-head HasRanges edit edits batch.ranges) (All-head IsGivable edit edits batch.givable) in
     let text = edit_text edit ++ others edits in
+    let most = most_edits form in
     let all : each_edit (split 59 text) ≡ Some (edit ∷ edits) =
     ap each_edit (cut (edit_text edit) edits (no_separator_in edit))
-    ∙ each_says (edit_text edit) edit edits (first_part edit w) (All-tail HasRanges edit edits batch.ranges) (All-tail IsGivable edit edits batch.givable) in
-    ap (if_text 16 text) all
-    ∙ cond-true (nat_le (length (edit ∷ edits)) 16 && bytes_eq text text) (Some (edit ∷ edits)) None
-    (and_from (nat_le (length (edit ∷ edits)) 16) (bytes_eq text text) (le-leb (length (edit ∷ edits)) 16 batch.few)
+    ∙ each_says (edit_text edit) edit edits (first_part edit w) ranges givable in
+    ap (if_text most text) all
+    ∙ cond-true (nat_le (length (edit ∷ edits)) most && bytes_eq text text) (Some (edit ∷ edits)) None
+    (and_from (nat_le (length (edit ∷ edits)) most) (bytes_eq text text) (le-leb (length (edit ∷ edits)) most few)
     ((bytes_eq-Decides text text).1 refl))

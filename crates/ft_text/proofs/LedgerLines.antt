@@ -1,7 +1,6 @@
 -- No line of a ledger has an LF.
 use Rattle.std.proofs.Common.{◌≡◌, ℕ, suc, Bool, true, List, [], ◌∷◌, ◌++◌, length, map, All, Option, Some, None, codes, decimal, refl, ◌∙◌, append_assoc}
 use Rattle.std.specs.List.{list_all, flat_map}
-use Rattle.std.specs.Fmt.{digits}
 use Rattle.std.proofs.lemmas.Bool.{and_from, and_parts}
 use Rattle.std.proofs.lemmas.List.Elements.{All-head, All-tail}
 use Rattle.ft_types.specs.declared.edit.Edit.{Edit}
@@ -42,12 +41,13 @@ entry_lf : (e : Entry) → avoids 10 (entry_line e) ≡ true
 entry_lf e = avoids_append 10 (text_of_words (codes "c" ∷ numbers (e.version ∷ e.hand ∷ e.seq ∷ []))) (32 ∷ batch_text e.batch)
     (words_lf (codes "c" ∷ numbers (e.version ∷ e.hand ∷ e.seq ∷ [])) (plain_numbers (e.version ∷ e.hand ∷ e.seq ∷ []))) (batch_lf e.batch)
 
-refusal_lf : (f : Refusal) → avoids 10 (refusal_line 2 f) ≡ true
-refusal_lf f =
+refusal_lf : (form : ℕ) (f : Refusal) → avoids 10 (refusal_line form f) ≡ true
+refusal_lf form f =
     let ns = numbers (f.hand ∷ f.seq ∷ []) in
-    let ws = (codes "r" ∷ ns) ++ cause_words 2 f.cause in
+    let cw = cause_words form f.cause in
+    let ws = (codes "r" ∷ ns) ++ cw in
     avoids_append 10 (text_of_words ws) (32 ∷ batch_text f.batch)
-    (words_lf ws (words_append ns (cause_words 2 f.cause) (plain_numbers (f.hand ∷ f.seq ∷ [])) (plain_cause f.cause))) (batch_lf f.batch)
+    (words_lf ws (words_append ns cw (plain_numbers (f.hand ∷ f.seq ∷ [])) (plain_cause form f.cause))) (batch_lf f.batch)
 
 hand_lf : (h : HandEnd) → HasCause h → avoids 10 (hand_line h) ≡ true
 hand_lf h c = words_lf (codes "h" ∷ decimal h.hand ∷ hand_cause h.cause ∷ decimal h.at ∷ [])
@@ -67,9 +67,10 @@ entries_clean : (es : List Entry) → clean (map entry_line es) ≡ true
 entries_clean [] = refl
 entries_clean (e ∷ es) = and_from (avoids 10 (entry_line e)) (clean (map entry_line es)) (entry_lf e) (entries_clean es)
 
-refusals_clean : (fs : List Refusal) → clean (map (refusal_line 2) fs) ≡ true
-refusals_clean [] = refl
-refusals_clean (f ∷ fs) = and_from (avoids 10 (refusal_line 2 f)) (clean (map (refusal_line 2) fs)) (refusal_lf f) (refusals_clean fs)
+refusals_clean : (form : ℕ) (fs : List Refusal) → clean (map (refusal_line form) fs) ≡ true
+refusals_clean form [] = refl
+refusals_clean form (f ∷ fs) =
+    and_from (avoids 10 (refusal_line form f)) (clean (map (refusal_line form) fs)) (refusal_lf form f) (refusals_clean form fs)
 
 ticks_clean : (n : ℕ) (ts : List TickReport) → clean (tick_lines n ts) ≡ true
 ticks_clean n [] = refl
@@ -85,22 +86,22 @@ saved_clean : (s : Option SavedLine) → clean (saved_lines s) ≡ true
 saved_clean None = refl
 saved_clean (Some s) = and_from (avoids 10 (saved_line s)) true (words_lf (codes "s" ∷ numbers (s.version ∷ s.bytes ∷ [])) (plain_numbers (s.version ∷ s.bytes ∷ []))) refl
 
-head_clean : avoids 10 (head_line 2) ≡ true
-unfolding digits
-head_clean = refl
+head_clean : (form : ℕ) → avoids 10 (head_line form) ≡ true
+head_clean form = words_lf (codes "xmstudio" ∷ codes "ledger" ∷ decimal form ∷ []) (plain_numbers (form ∷ []))
 
-first_clean : (line : List ℕ) → avoids 10 line ≡ true → clean (head_line 2 ∷ line ∷ []) ≡ true
-first_clean line none = and_from (avoids 10 (head_line 2)) (clean (line ∷ [])) head_clean (and_from (avoids 10 line) true none refl)
+first_clean : (form : ℕ) (line : List ℕ) → avoids 10 line ≡ true → clean (head_line form ∷ line ∷ []) ≡ true
+first_clean form line none =
+    and_from (avoids 10 (head_line form)) (clean (line ∷ [])) (head_clean form) (and_from (avoids 10 line) true none refl)
 
-lines_clean : (a : Account) → All HasCause a.hands → clean (ledger_lines 2 a) ≡ true
+lines_clean : (form : ℕ) (a : Account) → All HasCause a.hands → clean (ledger_lines form a) ≡ true
 unfolding ledger_lines
-lines_clean a causes =
+lines_clean form a causes =
     let run = a.run in
     let ns = run.rate ∷ run.seconds ∷ run.segments ∷ run.channels ∷ [] in
     let last = run.status ∷ length a.ticks ∷ [] in
-    let p0 = head_line 2 ∷ play_line run ∷ [] in
+    let p0 = head_line form ∷ play_line run ∷ [] in
     let p1 = p0 ++ map entry_line a.entries in
-    let p2 = p1 ++ map (refusal_line 2) a.refusals in
+    let p2 = p1 ++ map (refusal_line form) a.refusals in
     let p3 = p2 ++ tick_lines 0 a.ticks in
     let p4 = p3 ++ map hand_line a.hands in
     let p5 = p4 ++ saved_lines a.saved in
@@ -108,20 +109,20 @@ lines_clean a causes =
     (clean_append p4 (saved_lines a.saved)
     (clean_append p3 (map hand_line a.hands)
     (clean_append p2 (tick_lines 0 a.ticks)
-    (clean_append p1 (map (refusal_line 2) a.refusals)
-    (clean_append p0 (map entry_line a.entries) (first_clean (play_line run) (words_lf (codes "play" ∷ numbers ns) (plain_numbers ns)))
-    (entries_clean a.entries)) (refusals_clean a.refusals)) (ticks_clean 0 a.ticks)) (hands_clean a.hands causes)) (saved_clean a.saved))
+    (clean_append p1 (map (refusal_line form) a.refusals)
+    (clean_append p0 (map entry_line a.entries) (first_clean form (play_line run) (words_lf (codes "play" ∷ numbers ns) (plain_numbers ns)))
+    (entries_clean a.entries)) (refusals_clean form a.refusals)) (ticks_clean 0 a.ticks)) (hands_clean a.hands causes)) (saved_clean a.saved))
     (and_from (avoids 10 (end_line run.status (length a.ticks))) true (words_lf (codes "end" ∷ numbers last) (plain_numbers last)) refl)
 
 regroup : (a b c d e f g t : List (List ℕ)) → a ++ b ++ c ++ d ++ e ++ f ++ g ++ t ≡ a ++ (b ++ (c ++ (d ++ (e ++ (f ++ (g ++ t))))))
 regroup a b c d e f g t = simp append_assoc
 
 -- the parts of a ledger
-pub parts_are : (a : Account) → All HasCause a.hands → split 10 (ledger_text 2 a)
-    ≡ head_line 2 ∷ play_line a.run ∷ (map entry_line a.entries ++ (map (refusal_line 2) a.refusals ++ (tick_lines 0 a.ticks
+pub parts_are : (form : ℕ) (a : Account) → All HasCause a.hands → split 10 (ledger_text form a)
+    ≡ head_line form ∷ play_line a.run ∷ (map entry_line a.entries ++ (map (refusal_line form) a.refusals ++ (tick_lines 0 a.ticks
     ++ (map hand_line a.hands ++ (saved_lines a.saved ++ (end_line a.run.status (length a.ticks) ∷ [] ∷ []))))))
 unfolding ledger_text ledger_lines
-parts_are a causes =
-    split_lines (ledger_lines 2 a) (lines_clean a causes)
-    ∙ regroup (head_line 2 ∷ play_line a.run ∷ []) (map entry_line a.entries) (map (refusal_line 2) a.refusals) (tick_lines 0 a.ticks)
+parts_are form a causes =
+    split_lines (ledger_lines form a) (lines_clean form a causes)
+    ∙ regroup (head_line form ∷ play_line a.run ∷ []) (map entry_line a.entries) (map (refusal_line form) a.refusals) (tick_lines 0 a.ticks)
     (map hand_line a.hands) (saved_lines a.saved) (end_line a.run.status (length a.ticks) ∷ []) ([] ∷ [])

@@ -1,9 +1,9 @@
 -- Lines of a ledger, which say what they were written of.
-use Rattle.std.proofs.Common.{◌≡◌, ◌≢◌, ℕ, zero, suc, ◌^◌, ◌<◌, ◌≤◌, true, ◌&&◌, inl, inr, List, [], ◌∷◌, ◌++◌, get_or, nat_le, Some, None, codes, decimal, ℤ, pos, negsuc, refl, ap, ◌∙◌, arith}
+use Rattle.std.proofs.Common.{◌≡◌, ◌≢◌, ℕ, zero, suc, ◌^◌, ◌<◌, ◌≤◌, true, ◌&&◌, inl, inr, List, [], ◌∷◌, ◌++◌, get_or, nat_le, Some, None, codes, decimal, ℤ, pos, negsuc, refl, ap, ◌∙◌, arith, append_assoc, ◌==◌}
 use Rattle.std.specs.Prelude.{bytes_eq, FitsSigned, option_map}
 use Rattle.std.specs.Int.{w64}
 use Rattle.std.specs.Fmt.{digits, signed_decimal}
-use Rattle.std.proofs.lemmas.Bool.{and_from, cond-true, le-leb}
+use Rattle.std.proofs.lemmas.Bool.{and_from, cond-true, cond_both, le-leb}
 use Rattle.std.proofs.lemmas.Str.Parse.{digit_at}
 use Rattle.std.proofs.lemmas.Fmt.{digits_decimal, decimal_nonempty}
 use Rattle.std.proofs.lemmas.Slice.Eq.{bytes_eq-Decides}
@@ -25,8 +25,8 @@ use Rattle.ft_text.specs.Texts.{text_of_words, batch_text}
 use Rattle.ft_text.specs.Edits.{named}
 use Rattle.ft_text.specs.Lines.{this_word}
 use Rattle.ft_text.specs.Record.{IsTold, HasCause}
-use Rattle.ft_text.specs.Ledger.{head_line, play_line, entry_line, refusal_line, tick_line, hand_line, hand_cause, saved_line, end_line, fault_words, cause_words}
-use Rattle.ft_text.specs.LedgerWords.{Taking, word, if_over, said, head, play, only_if, is_told, status_of, hand_from, hand_causes, entry, batch, batch_of, fault, cause, refusal, tick, hand, saved, end, with_rest}
+use Rattle.ft_text.specs.Ledger.{head_line, play_line, entry_line, refusal_line, tick_line, hand_line, hand_cause, saved_line, end_line, fault_words, place_words, cause_words}
+use Rattle.ft_text.specs.LedgerWords.{Taking, word, if_over, said, head, play, only_if, is_told, status_of, hand_from, hand_causes, entry, batch, batch_of, fault, cause, refusal, tick, hand, saved, end, with_rest, saved_name, place, edit_cause, most_edits}
 use Rattle.ft_text.specs.LedgerBack.{RunHasRanges, EntryHasRanges, FaultHasRanges, CauseHasRanges, RefusalHasRanges, TickHasRanges, HandHasRanges, SavedHasRanges}
 use Rattle.ft_text.proofs.Decimals.{own, signed_below_zero, signed_from_zero, negated}
 use Rattle.ft_text.proofs.ValuesBack.{number_back}
@@ -65,22 +65,41 @@ tick_back n t r = said_is (tick n) (codes "t") (numbers (n ∷ t.version ∷ t.o
     (plain_numbers (n ∷ t.version ∷ t.order ∷ t.row ∷ t.tick ∷ t.frames ∷ []))
     (rw (this_back (decimal n), n32 t.version r.0, n16 t.order r.1, n16 t.row r.2, n16 t.tick r.3, n32 t.frames r.4) refl)
 
-pub saved_back : (s : SavedLine) → SavedHasRanges s → said (saved 2) (saved_line s) ≡ Some s
+-- a saved song can be told in this form
+abbrev pub TellsSaved : ℕ → Type 0
+TellsSaved form = saved_name form (codes "s") ≡ Some (codes "s")
+
+pub saved_back : (form : ℕ) (s : SavedLine) → TellsSaved form → SavedHasRanges s → said (saved form) (saved_line s) ≡ Some s
 unfolding word
-saved_back s r = said_is (saved 2) (codes "s") (numbers (s.version ∷ s.bytes ∷ [])) s refl
+saved_back form s told r = said_is (saved form) (codes "s") (numbers (s.version ∷ s.bytes ∷ [])) s refl
     (plain_numbers (s.version ∷ s.bytes ∷ []))
-    (rw (n32 s.version r.0, n32 s.bytes r.1) refl)
+    (rw (told, n32 s.version r.0, n32 s.bytes r.1) refl)
 
 pub head_back : said head (head_line 2) ≡ Some 2
 unfolding word digits
 head_back = refl
 
-told_test : (status : ℕ) → IsTold status → is_told 2 status ≡ true
+pub old_head_back : said head (head_line 1) ≡ Some 1
+unfolding word digits
+old_head_back = refl
+
+-- a status can be told in this form
+abbrev pub TellsStatus : ℕ → ℕ → Type 0
+TellsStatus form status = is_told form status ≡ true
+
+pub told_test : (status : ℕ) → IsTold status → TellsStatus 2 status
 told_test status (inl e) = ap (is_told 2) e
 told_test status (inr (inl e)) = ap (is_told 2) e
 told_test status (inr (inr (inl e))) = ap (is_told 2) e
 told_test status (inr (inr (inr (inl e)))) = ap (is_told 2) e
 told_test status (inr (inr (inr (inr e)))) = ap (is_told 2) e
+
+pub old_told_test : (status : ℕ) → IsTold status → status ≢ 10 → TellsStatus 1 status
+old_told_test status (inl e) other = ap (is_told 1) e
+old_told_test status (inr (inl e)) other = ap (is_told 1) e
+old_told_test status (inr (inr (inl e))) other = ap (is_told 1) e
+old_told_test status (inr (inr (inr (inl e)))) other = ap (is_told 1) e
+old_told_test status (inr (inr (inr (inr e)))) other = absurd (other e)
 
 told_small : (status : ℕ) → IsTold status → status < 2 ^ 8
 told_small status (inl e) = omega arith
@@ -89,15 +108,15 @@ told_small status (inr (inr (inl e))) = omega arith
 told_small status (inr (inr (inr (inl e)))) = omega arith
 told_small status (inr (inr (inr (inr e)))) = omega arith
 
-status_back : (status : ℕ) → IsTold status → status_of 2 (decimal status) ≡ Some status
-status_back status told =
-    ap (only_if (is_told 2)) (n8 status (told_small status told)) ∙ cond-true (is_told 2 status) (Some status) None (told_test status told)
+status_back : (form status : ℕ) → IsTold status → TellsStatus form status → status_of form (decimal status) ≡ Some status
+status_back form status told tells =
+    ap (only_if (is_told form)) (n8 status (told_small status told)) ∙ cond-true (is_told form status) (Some status) None tells
 
-pub end_back : (status ticks : ℕ) → IsTold status → said (end 2 ticks) (end_line status ticks) ≡ Some status
+pub end_back : (form status ticks : ℕ) → IsTold status → TellsStatus form status → said (end form ticks) (end_line status ticks) ≡ Some status
 unfolding word
-end_back status ticks told = said_is (end 2 ticks) (codes "end") (numbers (status ∷ ticks ∷ [])) status refl
+end_back form status ticks told tells = said_is (end form ticks) (codes "end") (numbers (status ∷ ticks ∷ [])) status refl
     (plain_numbers (status ∷ ticks ∷ []))
-    (rw (status_back status told, this_back (decimal ticks)) refl)
+    (rw (status_back form status told tells, this_back (decimal ticks)) refl)
 
 -- ---- hands
 
@@ -148,12 +167,28 @@ fault_back (causes.TooMany what count) rest r = rw (n8 7 (omega arith), n8 what 
 fault_back (causes.NoSample i s) rest r = rw (n8 8 (omega arith), n8 i r.0, n8 s r.1) refl
 fault_back (causes.Cut from to frames) rest r = rw (n8 9 (omega arith), n32 from r.0, n64 to r.1, n32 frames r.2) refl
 
-cause_back : (c : CommitFault) (rest : List (List ℕ)) → CauseHasRanges c → c ≢ faults.NoMemory → cause 2 (cause_words 2 c ++ rest) ≡ Some (c, rest)
+-- the place of an edit can be told in this form
+abbrev pub TellsPlace : ℕ → CommitFault → Type 0
+TellsPlace form (faults.Edit at f) = (rest : List (List ℕ)) → place form (place_words form at ++ rest) ≡ Some (at, rest)
+TellsPlace form (faults.Worn version) = Unit {0}
+TellsPlace form faults.NoMemory = Unit {0}
+TellsPlace form (faults.Full need free) = Unit {0}
+
+pub places_told : (c : CommitFault) → CauseHasRanges c → TellsPlace 2 c
+unfolding word
+places_told (faults.Edit at f) r = λ rest. rw (n8 at r.0) refl
+places_told (faults.Worn version) r = tt
+places_told faults.NoMemory r = tt
+places_told (faults.Full need free) r = tt
+
+cause_back : (form : ℕ) (c : CommitFault) (rest : List (List ℕ)) → TellsPlace form c → CauseHasRanges c → c ≢ faults.NoMemory
+    → cause form (cause_words form c ++ rest) ≡ Some (c, rest)
 unfolding cause word
-cause_back (faults.Edit at f) rest r told = rw (n8 at r.0, fault_back f rest r.1) refl
-cause_back (faults.Worn version) rest r told = rw (n32 version r) refl
-cause_back faults.NoMemory rest r told = absurd (told refl)
-cause_back (faults.Full need free) rest r told = rw (n32 need r.0, n32 free r.1) refl
+cause_back form (faults.Edit at f) rest tells r told =
+    ap (edit_cause form) (append_assoc (place_words form at) (fault_words f) rest) ∙ rw (tells (fault_words f ++ rest), fault_back f rest r.1) refl
+cause_back form (faults.Worn version) rest tells r told = rw (n32 version r) refl
+cause_back form faults.NoMemory rest tells r told = absurd (told refl)
+cause_back form (faults.Full need free) rest tells r told = rw (n32 need r.0, n32 free r.1) refl
 
 plain_fault : (f : EditFault) → all_plain (fault_words f) ≡ true
 plain_fault (causes.NoPattern p) = plain_numbers (1 ∷ p ∷ [])
@@ -167,41 +202,44 @@ plain_fault (causes.TooMany what count) = plain_numbers (7 ∷ what ∷ count �
 plain_fault (causes.NoSample i s) = plain_numbers (8 ∷ i ∷ s ∷ [])
 plain_fault (causes.Cut from to frames) = plain_numbers (9 ∷ from ∷ to ∷ frames ∷ [])
 
-pub plain_cause : (c : CommitFault) → all_plain (cause_words 2 c) ≡ true
-plain_cause (faults.Edit at f) = and_from (plain (decimal at)) (all_plain (fault_words f)) (plain_decimal at) (plain_fault f)
-plain_cause (faults.Worn version) = plain_numbers (version ∷ [])
-plain_cause faults.NoMemory = refl
-plain_cause (faults.Full need free) = plain_numbers (need ∷ free ∷ [])
+plain_place : (form at : ℕ) → all_plain (place_words form at) ≡ true
+plain_place form at = cond_both (form == 1) [] (numbers (at ∷ [])) (λ ws. all_plain ws ≡ true) (λ so. refl) (λ other. plain_numbers (at ∷ []))
+
+pub plain_cause : (form : ℕ) (c : CommitFault) → all_plain (cause_words form c) ≡ true
+plain_cause form (faults.Edit at f) = words_append (place_words form at) (fault_words f) (plain_place form at) (plain_fault f)
+plain_cause form (faults.Worn version) = plain_numbers (version ∷ [])
+plain_cause form faults.NoMemory = refl
+plain_cause form (faults.Full need free) = plain_numbers (need ∷ free ∷ [])
 
 -- ---- lines with edits
 
--- a text gives these edits
-abbrev pub TextGives : List Edit → Type 0
-TextGives edits = batch_of 16 (batch_text edits) ≡ Some edits
+-- a text gives these edits in this form
+abbrev pub TextGives : ℕ → List Edit → Type 0
+TextGives form edits = batch_of (most_edits form) (batch_text edits) ≡ Some edits
 
-batch_back : (edits : List Edit) → TextGives edits → batch 2 (split 32 (batch_text edits)) ≡ Some (edits, [])
+batch_back : (form : ℕ) (edits : List Edit) → TextGives form edits → batch form (split 32 (batch_text edits)) ≡ Some (edits, [])
 unfolding batch
-batch_back edits gives =
-    ap (λ text. with_rest [] (batch_of 16 text)) (join_with_byte-slice_split 32 (batch_text edits)) ∙ ap (with_rest []) gives
+batch_back form edits gives =
+    ap (λ text. with_rest [] (batch_of (most_edits form) text)) (join_with_byte-slice_split 32 (batch_text edits)) ∙ ap (with_rest []) gives
 
-pub entry_back : (e : Entry) → EntryHasRanges e → TextGives e.batch → said (entry 2) (entry_line e) ≡ Some e
+pub entry_back : (form : ℕ) (e : Entry) → EntryHasRanges e → TextGives form e.batch → said (entry form) (entry_line e) ≡ Some e
 unfolding word
-entry_back e r gives =
-    let ws = numbers (e.version ∷ e.hand ∷ e.seq ∷ []) in
+entry_back form e r gives =
+    let ns = e.version ∷ e.hand ∷ e.seq ∷ [] in
+    let ws = numbers ns in
     let text = batch_text e.batch in
-    let taken : entry 2 (codes "c" ∷ (ws ++ split 32 text)) ≡ Some (e, []) =
-    rw (n32 e.version r.0, n8 e.hand r.1, n32 e.seq r.2, batch_back e.batch gives) refl in
-    ap (λ words. if_over (entry 2 words)) (split_before (codes "c") ws text refl (plain_numbers (e.version ∷ e.hand ∷ e.seq ∷ [])))
-    ∙ ap if_over taken
+    let taken : entry form (codes "c" ∷ (ws ++ split 32 text)) ≡ Some (e, []) =
+    rw (n32 e.version r.0, n8 e.hand r.1, n32 e.seq r.2, batch_back form e.batch gives) refl in
+    ap (λ words. if_over (entry form words)) (split_before (codes "c") ws text refl (plain_numbers ns)) ∙ ap if_over taken
 
-pub refusal_back : (f : Refusal) → RefusalHasRanges f → f.cause ≢ faults.NoMemory → TextGives f.batch → said (refusal 2) (refusal_line 2 f) ≡ Some f
+pub refusal_back : (form : ℕ) (f : Refusal) → RefusalHasRanges f → f.cause ≢ faults.NoMemory → TellsPlace form f.cause
+    → TextGives form f.batch → said (refusal form) (refusal_line form f) ≡ Some f
 unfolding word
-refusal_back f r told gives =
+refusal_back form f r told tells gives =
     let ns = numbers (f.hand ∷ f.seq ∷ []) in
-    let ws = ns ++ cause_words 2 f.cause in
+    let ws = ns ++ cause_words form f.cause in
     let text = batch_text f.batch in
-    let taken : refusal 2 (codes "r" ∷ (ws ++ split 32 text)) ≡ Some (f, []) =
-    rw (n8 f.hand r.0, n32 f.seq r.1, cause_back f.cause (split 32 text) r.3 told, batch_back f.batch gives) refl in
-    ap (λ words. if_over (refusal 2 words))
-    (split_before (codes "r") ws text refl (words_append ns (cause_words 2 f.cause) (plain_numbers (f.hand ∷ f.seq ∷ [])) (plain_cause f.cause)))
-    ∙ ap if_over taken
+    let taken : refusal form (codes "r" ∷ (ws ++ split 32 text)) ≡ Some (f, []) =
+    rw (n8 f.hand r.0, n32 f.seq r.1, cause_back form f.cause (split 32 text) tells r.3 told, batch_back form f.batch gives) refl in
+    let all = words_append ns (cause_words form f.cause) (plain_numbers (f.hand ∷ f.seq ∷ [])) (plain_cause form f.cause) in
+    ap (λ words. if_over (refusal form words)) (split_before (codes "r") ws text refl all) ∙ ap if_over taken

@@ -16,7 +16,7 @@ use Rattle.ft_text.specs.LedgerReading.{Place, one_line, line_or_wrong, lines_fr
 use Rattle.ft_text.specs.LedgerBack.{EntryHasRanges, RefusalHasRanges, TickHasRanges, HandHasRanges}
 use Rattle.ft_text.proofs.PlainBytes.{plain, plain_decimal, plain_numbers, words_append}
 use Rattle.ft_text.proofs.SplitsBack.{split, split_words, split_before}
-use Rattle.ft_text.proofs.LedgerLinesBack.{TextGives, entry_back, refusal_back, tick_back, hand_back, cause_name, plain_cause}
+use Rattle.ft_text.proofs.LedgerLinesBack.{TextGives, TellsPlace, entry_back, refusal_back, tick_back, hand_back, cause_name, plain_cause}
 
 abbrev pub at_place : ℕ → List (List ℕ) → Place
 at_place at left = record { at = at; left = left }
@@ -81,21 +81,29 @@ many_back value moved state at xs lines rest are some stop =
 
 -- ---- which lines these are
 
-pub entries_are : (entries : List Entry) (gives : (e : Entry) → EntryHasRanges e → TextGives e.batch) (state : ℕ) → All EntryHasRanges entries
-    → AreLines {S = ℕ} (λ s. said (entry 2)) (λ s x. s) state entries (map entry_line entries)
-entries_are [] gives state all = tt
-entries_are (e ∷ entries) gives state all =
-    let r = All-head EntryHasRanges e entries all in
-    (entry_back e r (gives e r), entries_are entries gives state (All-tail EntryHasRanges e entries all))
+pub entries_are : (form : ℕ) (entries : List Entry) (state : ℕ) → All (λ e. TextGives form e.batch) entries → All EntryHasRanges entries
+    → AreLines {S = ℕ} (λ s. said (entry form)) (λ s x. s) state entries (map entry_line entries)
+entries_are form [] state gives all = tt
+entries_are form (e ∷ entries) state gives all =
+    let Gives : Entry → Type 0 = λ e. TextGives form e.batch in (
+      entry_back form e (All-head EntryHasRanges e entries all) (All-head Gives e entries gives),
+      entries_are form entries state (All-tail Gives e entries gives) (All-tail EntryHasRanges e entries all),
+    )
 
-pub refusals_are : (refusals : List Refusal) (gives : (f : Refusal) → RefusalHasRanges f → TextGives f.batch) (state : ℕ) → All RefusalHasRanges refusals
-    → All CanBeRefused refusals → AreLines {S = ℕ} (λ s. said (refusal 2)) (λ s x. s) state refusals (map (refusal_line 2) refusals)
-refusals_are [] gives state all can = tt
-refusals_are (f ∷ refusals) gives state all can =
+-- a refusal can be told in this form
+abbrev pub TellsRefusal : ℕ → Refusal → Type 0
+TellsRefusal form f = TextGives form f.batch × TellsPlace form f.cause
+
+pub refusals_are : (form : ℕ) (refusals : List Refusal) (state : ℕ) → All (TellsRefusal form) refusals → All RefusalHasRanges refusals
+    → All CanBeRefused refusals → AreLines {S = ℕ} (λ s. said (refusal form)) (λ s x. s) state refusals (map (refusal_line form) refusals)
+refusals_are form [] state tells all can = tt
+refusals_are form (f ∷ refusals) state tells all can =
     let r = All-head RefusalHasRanges f refusals all in
-    let told = All-head CanBeRefused f refusals can in (
-      refusal_back f r told.1 (gives f r),
-      refusals_are refusals gives state (All-tail RefusalHasRanges f refusals all) (All-tail CanBeRefused f refusals can),
+    let told = All-head CanBeRefused f refusals can in
+    let tell = All-head (TellsRefusal form) f refusals tells in (
+      refusal_back form f r told.1 tell.1 tell.0,
+      refusals_are form refusals state (All-tail (TellsRefusal form) f refusals tells) (All-tail RefusalHasRanges f refusals all)
+          (All-tail CanBeRefused f refusals can),
     )
 
 pub ticks_are : (ticks : List TickReport) (n : ℕ) → All TickHasRanges ticks
@@ -125,13 +133,14 @@ entry_begins e = record {
   words = split_before (codes "c") (numbers (e.version ∷ e.hand ∷ e.seq ∷ [])) (batch_text e.batch) refl (plain_numbers (e.version ∷ e.hand ∷ e.seq ∷ []));
 }
 
-pub refusal_begins : (f : Refusal) → Begins (codes "r") (refusal_line 2 f)
-refusal_begins f =
+pub refusal_begins : (form : ℕ) (f : Refusal) → Begins (codes "r") (refusal_line form f)
+refusal_begins form f =
     let ns = numbers (f.hand ∷ f.seq ∷ []) in
+    let cw = cause_words form f.cause in
     record {
-      rest = (ns ++ cause_words 2 f.cause) ++ split 32 (batch_text f.batch);
-      words = split_before (codes "r") (ns ++ cause_words 2 f.cause) (batch_text f.batch) refl
-          (words_append ns (cause_words 2 f.cause) (plain_numbers (f.hand ∷ f.seq ∷ [])) (plain_cause f.cause));
+      rest = (ns ++ cw) ++ split 32 (batch_text f.batch);
+      words = split_before (codes "r") (ns ++ cw) (batch_text f.batch) refl
+          (words_append ns cw (plain_numbers (f.hand ∷ f.seq ∷ [])) (plain_cause form f.cause));
     }
 
 pub tick_begins : (n : ℕ) (t : TickReport) → Begins (codes "t") (tick_line n t)

@@ -1,5 +1,5 @@
 -- What is written of an account is read again.
-use Rattle.std.specs.Prelude.{◌≡◌, ◌^◌, ◌<◌, All, Ok, IfSome, FitsSigned}
+use Rattle.std.specs.Prelude.{◌≡◌, ◌^◌, ◌<◌, All, Ok, IfSome, FitsSigned, length, ◌≢◌, None}
 use Rattle.std.specs.Int.{w64}
 use Rattle.ft_types.specs.declared.journal.Entry.{Entry}
 use Rattle.ft_types.specs.declared.journal.Refusal.{Refusal}
@@ -62,9 +62,27 @@ pub record HasRanges (account : Account) : Type 0 where
   pub hands : All HandHasRanges account.hands
   pub saved : IfSome account.saved SavedHasRanges
 
+-- an edit's place in its batch is the first
+abbrev pub IsFirst : CommitFault → Type 0
+IsFirst (faults.Edit at fault) = at ≡ 0
+IsFirst _ = Unit {0}
+
+-- what form 1 can tell: single edits, no saved song, and not the status of one that couldn't be saved
+pub record IsOld (account : Account) : Type 0 where
+  pub entries : All (λ entry. length entry.batch ≡ 1) account.entries
+  pub refusals : All (λ refusal. (length refusal.batch ≡ 1) × IsFirst refusal.cause) account.refusals
+  pub saved : account.saved ≡ None
+  pub status : account.run.status ≢ 10
+
 -- the ledger of an account tells that account
 abbrev pub LedgersAreReadBack : Type 0
-LedgersAreReadBack = (account : Account) → IsTellable account → HasRanges account → ledger_of (ledger_text 2 account) ≡ Ok account
+LedgersAreReadBack = (account : Account) → IsTellable account → HasRanges account
+    → ledger_of (ledger_text 2 account) ≡ Ok account
+
+-- and so does that of form 1, where there is one
+abbrev pub OldLedgersAreReadBack : Type 0
+OldLedgersAreReadBack = (account : Account) → IsOld account → IsTellable account → HasRanges account
+    → ledger_of (ledger_text 1 account) ≡ Ok account
 
 -- so different accounts have different ledgers
 abbrev pub LedgersDiffer : Type 0

@@ -1,11 +1,13 @@
 //! Laws of the definitions of ledgers. These functions do nothing; their contracts say what holds.
 
-ghost use Rattle.ft_text.specs.LedgerBack.{LedgersAreReadBack, LedgersDiffer};
+ghost use Rattle.ft_text.specs.LedgerBack.{LedgersAreReadBack, OldLedgersAreReadBack, LedgersDiffer};
 ghost use Rattle.ft_text.specs.LedgerExact.{ReadIsWritten};
 
-/// The ledger of what can be told tells it, so different accounts have different ledgers.
+/// The ledger of what can be told tells it, in form 2 and, where it can, in form 1. So different
+/// accounts have different ledgers.
 pub fn ledgers_are_read_back()
     ensures back { LedgersAreReadBack }
+    ensures old { OldLedgersAreReadBack }
     ensures differ { LedgersDiffer }
 {}
 
