@@ -69,7 +69,8 @@ short_enough edit w rest gap =
     )
 
 -- an edit, and what follows it
-front_says : (edit : Edit) (w : IsWritten edit) (rest : List ℕ) → IsGap rest → line_of 0 (edit_text edit ++ rest) ≡ Ok (Some (None, edit ∷ []))
+front_says : (edit : Edit) (w : IsWritten edit) (rest : List ℕ) → IsGap rest
+    → line_of 0 (edit_text edit ++ rest) ≡ Ok (Some (None, edit ∷ []))
 front_says edit w rest gap =
     let text = edit_text edit ++ rest in
     let behind = spaced w.args ++ rest in
@@ -109,7 +110,8 @@ no_time_behind_space name rest begins end =
     ap (λ found. time_if (place 0 line) (follow (λ f. or_wrong f.0 (value f.1)) found)) (same_behind_space 0 (name ++ rest))
     ∙ ap (time_if (place 0 line)) (word_is_wrong value 1 name rest begins.is end other)
 
-behind_says : (edit : Edit) (w : IsWritten edit) (rest : List ℕ) → IsGap rest → line_of 0 (32 ∷ (edit_text edit ++ rest)) ≡ Ok (Some (None, edit ∷ []))
+behind_says : (edit : Edit) (w : IsWritten edit) (rest : List ℕ) → IsGap rest
+    → line_of 0 (32 ∷ (edit_text edit ++ rest)) ≡ Ok (Some (None, edit ∷ []))
 behind_says edit w rest gap =
     let text = edit_text edit ++ rest in
     let behind = spaced w.args ++ rest in
@@ -175,8 +177,10 @@ each_says : (x : List ℕ) (edit : Edit) (edits : List Edit) → SaysEdit edit x
 each_says x edit [] says ranges givable = ap (λ said. then_others (Some []) (one_edit said)) says.alone
 each_says x edit (next ∷ edits) says ranges givable =
     let w = is_written next (All-head HasRanges next edits ranges) (All-head IsGivable next edits givable) in
-    let rest = each_says (32 ∷ edit_text next) next edits (later_part next w) (All-tail HasRanges next edits ranges) (All-tail IsGivable next edits givable) in
-    ap (λ es. then_others es (one_edit (line_of 0 (x ++ 32 ∷ [])))) rest ∙ ap (λ said. then_others (Some (next ∷ edits)) (one_edit said)) says.spaced
+    let rest = each_says (32 ∷ edit_text next) next edits (later_part next w) (All-tail HasRanges next edits ranges)
+    (All-tail IsGivable next edits givable) in
+    ap (λ es. then_others es (one_edit (line_of 0 (x ++ 32 ∷ [])))) rest
+    ∙ ap (λ said. then_others (Some (next ∷ edits)) (one_edit said)) says.spaced
 
 -- ---- a batch
 

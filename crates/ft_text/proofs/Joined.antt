@@ -40,7 +40,8 @@ tick_more n (tick ∷ ticks) (suc i) d inside =
     let within : i < length ticks = omega arith in
     let same : suc n + i ≡ n + suc i = omega arith in
     ap (λ t. ended (tick_line n tick) ++ t) (tick_more (suc n) ticks i d within)
-    ∙ sym (append_assoc (ended (tick_line n tick)) (joined (tick_lines (suc n) (take i ticks))) (ended (tick_line (suc n + i) (get_or ticks i d))))
+    ∙ sym (append_assoc (ended (tick_line n tick)) (joined (tick_lines (suc n) (take i ticks)))
+    (ended (tick_line (suc n + i) (get_or ticks i d))))
     ∙ ap (λ k. (ended (tick_line n tick) ++ joined (tick_lines (suc n) (take i ticks))) ++ ended (tick_line k (get_or ticks i d))) same
 
 -- one more line of a tick

@@ -52,7 +52,8 @@ refusal_lf form f =
 hand_lf : (h : HandEnd) → HasCause h → avoids 10 (hand_line h) ≡ true
 hand_lf h c = words_lf (codes "h" ∷ decimal h.hand ∷ hand_cause h.cause ∷ decimal h.at ∷ [])
     (and_from (plain (decimal h.hand)) _ (plain_decimal h.hand)
-    (and_from (plain (hand_cause h.cause)) _ (cause_name h.cause c.0 c.1).1 (and_from (plain (decimal h.at)) true (plain_decimal h.at) refl)))
+    (and_from (plain (hand_cause h.cause)) _ (cause_name h.cause c.0 c.1).1
+    (and_from (plain (decimal h.at)) true (plain_decimal h.at) refl)))
 
 -- ---- all lines
 
@@ -61,7 +62,8 @@ clean lines = list_all (avoids 10) lines
 
 clean_append : (v w : List (List ℕ)) → clean v ≡ true → clean w ≡ true → clean (v ++ w) ≡ true
 clean_append [] w a b = b
-clean_append (x ∷ v) w a b = let parts = and_parts (avoids 10 x) (clean v) a in and_from (avoids 10 x) (clean (v ++ w)) parts.0 (clean_append v w parts.1 b)
+clean_append (x ∷ v) w a b = let parts = and_parts (avoids 10 x) (clean v) a in and_from (avoids 10 x) (clean (v ++ w)) parts.0
+    (clean_append v w parts.1 b)
 
 entries_clean : (es : List Entry) → clean (map entry_line es) ≡ true
 entries_clean [] = refl
@@ -76,15 +78,18 @@ ticks_clean : (n : ℕ) (ts : List TickReport) → clean (tick_lines n ts) ≡ t
 ticks_clean n [] = refl
 ticks_clean n (t ∷ ts) =
     let ns = n ∷ t.version ∷ t.order ∷ t.row ∷ t.tick ∷ t.frames ∷ [] in
-    and_from (avoids 10 (tick_line n t)) (clean (tick_lines (suc n) ts)) (words_lf (codes "t" ∷ numbers ns) (plain_numbers ns)) (ticks_clean (suc n) ts)
+    and_from (avoids 10 (tick_line n t)) (clean (tick_lines (suc n) ts)) (words_lf (codes "t" ∷ numbers ns) (plain_numbers ns))
+    (ticks_clean (suc n) ts)
 
 hands_clean : (hs : List HandEnd) → All HasCause hs → clean (map hand_line hs) ≡ true
 hands_clean [] all = refl
-hands_clean (h ∷ hs) all = and_from (avoids 10 (hand_line h)) (clean (map hand_line hs)) (hand_lf h (All-head HasCause h hs all)) (hands_clean hs (All-tail HasCause h hs all))
+hands_clean (h ∷ hs) all = and_from (avoids 10 (hand_line h)) (clean (map hand_line hs)) (hand_lf h (All-head HasCause h hs all))
+    (hands_clean hs (All-tail HasCause h hs all))
 
 saved_clean : (s : Option SavedLine) → clean (saved_lines s) ≡ true
 saved_clean None = refl
-saved_clean (Some s) = and_from (avoids 10 (saved_line s)) true (words_lf (codes "s" ∷ numbers (s.version ∷ s.bytes ∷ [])) (plain_numbers (s.version ∷ s.bytes ∷ []))) refl
+saved_clean (Some s) = and_from (avoids 10 (saved_line s)) true
+    (words_lf (codes "s" ∷ numbers (s.version ∷ s.bytes ∷ [])) (plain_numbers (s.version ∷ s.bytes ∷ []))) refl
 
 head_clean : (form : ℕ) → avoids 10 (head_line form) ≡ true
 head_clean form = words_lf (codes "xmstudio" ∷ codes "ledger" ∷ decimal form ∷ []) (plain_numbers (form ∷ []))
@@ -111,7 +116,8 @@ lines_clean form a causes =
     (clean_append p2 (tick_lines 0 a.ticks)
     (clean_append p1 (map (refusal_line form) a.refusals)
     (clean_append p0 (map entry_line a.entries) (first_clean form (play_line run) (words_lf (codes "play" ∷ numbers ns) (plain_numbers ns)))
-    (entries_clean a.entries)) (refusals_clean form a.refusals)) (ticks_clean 0 a.ticks)) (hands_clean a.hands causes)) (saved_clean a.saved))
+    (entries_clean a.entries)) (refusals_clean form a.refusals)) (ticks_clean 0 a.ticks)) (hands_clean a.hands causes))
+    (saved_clean a.saved))
     (and_from (avoids 10 (end_line run.status (length a.ticks))) true (words_lf (codes "end" ∷ numbers last) (plain_numbers last)) refl)
 
 regroup : (a b c d e f g t : List (List ℕ)) → a ++ b ++ c ++ d ++ e ++ f ++ g ++ t ≡ a ++ (b ++ (c ++ (d ++ (e ++ (f ++ (g ++ t))))))

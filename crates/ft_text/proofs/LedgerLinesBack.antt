@@ -55,7 +55,8 @@ said_is taking w ws x is all e = ap (λ words. if_over (taking words)) (split_wo
 
 pub play_back : (run : Run) → RunHasRanges run → said play (play_line run) ≡ Some (record run { status = 0 })
 unfolding word
-play_back run r = said_is play (codes "play") (numbers (run.rate ∷ run.seconds ∷ run.segments ∷ run.channels ∷ [])) (record run { status = 0 }) refl
+play_back run r = said_is play (codes "play") (numbers (run.rate ∷ run.seconds ∷ run.segments ∷ run.channels ∷ []))
+    (record run { status = 0 }) refl
     (plain_numbers (run.rate ∷ run.seconds ∷ run.segments ∷ run.channels ∷ []))
     (rw (n32 run.rate r.0, n32 run.seconds r.1, n16 run.segments r.2, n8 run.channels r.3) refl)
 
@@ -112,7 +113,8 @@ status_back : (form status : ℕ) → IsTold status → TellsStatus form status 
 status_back form status told tells =
     ap (only_if (is_told form)) (n8 status (told_small status told)) ∙ cond-true (is_told form status) (Some status) None tells
 
-pub end_back : (form status ticks : ℕ) → IsTold status → TellsStatus form status → said (end form ticks) (end_line status ticks) ≡ Some status
+pub end_back : (form status ticks : ℕ) → IsTold status → TellsStatus form status
+    → said (end form ticks) (end_line status ticks) ≡ Some status
 unfolding word
 end_back form status ticks told tells = said_is (end form ticks) (codes "end") (numbers (status ∷ ticks ∷ [])) status refl
     (plain_numbers (status ∷ ticks ∷ []))
@@ -138,7 +140,8 @@ hand_back least h r c low =
     let name = cause_name h.cause c.0 c.1 in
     said_is (hand least) (codes "h") (decimal h.hand ∷ hand_cause h.cause ∷ decimal h.at ∷ []) h refl
     (and_from (plain (decimal h.hand)) (plain (hand_cause h.cause) && (plain (decimal h.at) && true)) (plain_decimal h.hand)
-    (and_from (plain (hand_cause h.cause)) (plain (decimal h.at) && true) name.1 (and_from (plain (decimal h.at)) true (plain_decimal h.at) refl)))
+    (and_from (plain (hand_cause h.cause)) (plain (decimal h.at) && true) name.1
+    (and_from (plain (decimal h.at)) true (plain_decimal h.at) refl)))
     (rw (number_from least h.hand low r.0, name.0, n32 h.at r.1) refl)
 
 -- ---- causes of refusals
@@ -153,7 +156,8 @@ s64 (pos n) fits =
     signed_from_zero 9223372036854775807 (decimal n) (omega arith) (no_sign n (omega (arith, fits)))
     ∙ ap (option_map pos) (number_back 9223372036854775807 n (omega (arith, fits)) (omega arith))
 s64 (negsuc n) fits =
-    signed_below_zero 9223372036854775807 (decimal (suc n)) ∙ ap negated (number_back 9223372036854775808 (suc n) (omega (arith, fits)) (omega arith))
+    signed_below_zero 9223372036854775807 (decimal (suc n))
+    ∙ ap negated (number_back 9223372036854775808 (suc n) (omega (arith, fits)) (omega arith))
 
 fault_back : (f : EditFault) (rest : List (List ℕ)) → FaultHasRanges f → fault (fault_words f ++ rest) ≡ Some (f, rest)
 unfolding fault word
@@ -185,7 +189,8 @@ cause_back : (form : ℕ) (c : CommitFault) (rest : List (List ℕ)) → TellsPl
     → cause form (cause_words form c ++ rest) ≡ Some (c, rest)
 unfolding cause word
 cause_back form (faults.Edit at f) rest tells r told =
-    ap (edit_cause form) (append_assoc (place_words form at) (fault_words f) rest) ∙ rw (tells (fault_words f ++ rest), fault_back f rest r.1) refl
+    ap (edit_cause form) (append_assoc (place_words form at) (fault_words f) rest)
+    ∙ rw (tells (fault_words f ++ rest), fault_back f rest r.1) refl
 cause_back form (faults.Worn version) rest tells r told = rw (n32 version r) refl
 cause_back form faults.NoMemory rest tells r told = absurd (told refl)
 cause_back form (faults.Full need free) rest tells r told = rw (n32 need r.0, n32 free r.1) refl
@@ -197,13 +202,15 @@ plain_fault (causes.NoChannel ch) = plain_numbers (3 ∷ ch ∷ [])
 plain_fault (causes.NoOrder position) = plain_numbers (4 ∷ position ∷ [])
 plain_fault (causes.NoInstrument i) = plain_numbers (5 ∷ i ∷ [])
 plain_fault (causes.Range field found) =
-    words_append (numbers (6 ∷ field ∷ [])) (signed_decimal found ∷ []) (plain_numbers (6 ∷ field ∷ [])) (one_word (signed_decimal found) (plain_signed found))
+    words_append (numbers (6 ∷ field ∷ [])) (signed_decimal found ∷ []) (plain_numbers (6 ∷ field ∷ []))
+    (one_word (signed_decimal found) (plain_signed found))
 plain_fault (causes.TooMany what count) = plain_numbers (7 ∷ what ∷ count ∷ [])
 plain_fault (causes.NoSample i s) = plain_numbers (8 ∷ i ∷ s ∷ [])
 plain_fault (causes.Cut from to frames) = plain_numbers (9 ∷ from ∷ to ∷ frames ∷ [])
 
 plain_place : (form at : ℕ) → all_plain (place_words form at) ≡ true
-plain_place form at = cond_both (form == 1) [] (numbers (at ∷ [])) (λ ws. all_plain ws ≡ true) (λ so. refl) (λ other. plain_numbers (at ∷ []))
+plain_place form at = cond_both (form == 1) [] (numbers (at ∷ [])) (λ ws. all_plain ws ≡ true) (λ so. refl)
+    (λ other. plain_numbers (at ∷ []))
 
 pub plain_cause : (form : ℕ) (c : CommitFault) → all_plain (cause_words form c) ≡ true
 plain_cause form (faults.Edit at f) = words_append (place_words form at) (fault_words f) (plain_place form at) (plain_fault f)

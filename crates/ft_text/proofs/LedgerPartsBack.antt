@@ -72,7 +72,8 @@ lines_back value moved state (x ∷ xs) (line ∷ lines) rest are some stop =
     ∙ ap (λ found. while_some (line ∷ others) found (λ y. lines_from value moved (moved state y) others)) are.0
     ∙ ap (also x) (lines_back value moved (moved state x) xs lines rest are.1 some stop)
 
-pub many_back : {S A : Type 0} (value : S → List ℕ → Option A) (moved : S → A → S) (state : S) (at : ℕ) (xs : List A) (lines rest : List (List ℕ))
+pub many_back : {S A : Type 0} (value : S → List ℕ → Option A) (moved : S → A → S) (state : S) (at : ℕ) (xs : List A)
+    (lines rest : List (List ℕ))
     → AreLines value moved state xs lines → (length rest == 0) ≡ false → Stops (value (moved_by moved state xs)) rest
     → many value moved state (at_place at (lines ++ rest)) ≡ Ok (xs, at_place (at + length xs) rest)
 unfolding many
@@ -130,7 +131,8 @@ pub record Begins (w line : List ℕ) : Type 0 where
 pub entry_begins : (e : Entry) → Begins (codes "c") (entry_line e)
 entry_begins e = record {
   rest = numbers (e.version ∷ e.hand ∷ e.seq ∷ []) ++ split 32 (batch_text e.batch);
-  words = split_before (codes "c") (numbers (e.version ∷ e.hand ∷ e.seq ∷ [])) (batch_text e.batch) refl (plain_numbers (e.version ∷ e.hand ∷ e.seq ∷ []));
+  words = split_before (codes "c") (numbers (e.version ∷ e.hand ∷ e.seq ∷ [])) (batch_text e.batch) refl
+      (plain_numbers (e.version ∷ e.hand ∷ e.seq ∷ []));
 }
 
 pub refusal_begins : (form : ℕ) (f : Refusal) → Begins (codes "r") (refusal_line form f)
@@ -155,7 +157,8 @@ hand_begins h c =
       rest = ws;
       words = split_words (codes "h") ws refl
           (and_from (plain (decimal h.hand)) _ (plain_decimal h.hand)
-          (and_from (plain (hand_cause h.cause)) _ (cause_name h.cause c.0 c.1).1 (and_from (plain (decimal h.at)) true (plain_decimal h.at) refl)));
+          (and_from (plain (hand_cause h.cause)) _ (cause_name h.cause c.0 c.1).1
+          (and_from (plain (decimal h.at)) true (plain_decimal h.at) refl)));
     }
 
 pub saved_begins : (s : SavedLine) → Begins (codes "s") (saved_line s)
@@ -171,5 +174,6 @@ end_begins status ticks = record {
 }
 
 -- a line that begins otherwise has no value
-pub no_value : {A : Type 0} (taking : Taking A) (w line : List ℕ) → Begins w line → ((rest : List (List ℕ)) → taking (w ∷ rest) ≡ None) → said taking line ≡ None
+pub no_value : {A : Type 0} (taking : Taking A) (w line : List ℕ) → Begins w line → ((rest : List (List ℕ)) → taking (w ∷ rest) ≡ None)
+    → said taking line ≡ None
 no_value taking w line begins none = ap (λ words. if_over (taking words)) begins.words ∙ ap if_over (none begins.rest)

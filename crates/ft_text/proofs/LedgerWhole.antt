@@ -26,7 +26,8 @@ Refuses taking w = (rest : List (List ℕ)) → taking (w ∷ rest) ≡ None
 
 -- ---- where a reading stops
 
-stops_end : {A : Type 0} (taking : Taking A) (status ticks : ℕ) → Refuses taking (codes "end") → Stops (said taking) (end_line status ticks ∷ [] ∷ [])
+stops_end : {A : Type 0} (taking : Taking A) (status ticks : ℕ) → Refuses taking (codes "end")
+    → Stops (said taking) (end_line status ticks ∷ [] ∷ [])
 stops_end taking status ticks none = no_value taking (codes "end") (end_line status ticks) (end_begins status ticks) none
 
 stops_saved : {A : Type 0} (taking : Taking A) (s : Option SavedLine) (rest : List (List ℕ)) → Refuses taking (codes "s")
@@ -37,7 +38,8 @@ stops_saved taking (Some s) rest none stop = no_value taking (codes "s") (saved_
 stops_hands : {A : Type 0} (taking : Taking A) (hs : List HandEnd) (rest : List (List ℕ)) → All HasCause hs → Refuses taking (codes "h")
     → Stops (said taking) rest → Stops (said taking) (map hand_line hs ++ rest)
 stops_hands taking [] rest causes none stop = stop
-stops_hands taking (h ∷ hs) rest causes none stop = no_value taking (codes "h") (hand_line h) (hand_begins h (All-head HasCause h hs causes)) none
+stops_hands taking (h ∷ hs) rest causes none stop = no_value taking (codes "h") (hand_line h)
+    (hand_begins h (All-head HasCause h hs causes)) none
 
 stops_ticks : {A : Type 0} (taking : Taking A) (n : ℕ) (ts : List TickReport) (rest : List (List ℕ)) → Refuses taking (codes "t")
     → Stops (said taking) rest → Stops (said taking) (tick_lines n ts ++ rest)
@@ -192,7 +194,8 @@ whole_back form a f t r =
     let e6 : many (λ least. said (hand least)) (λ least end. end.hand + 1) 0 (at_place a5 l3) ≡ Ok (a.hands, at_place a6 l4) =
     many_back (λ least. said (hand least)) (λ least end. end.hand + 1) 0 a5 a.hands (map hand_line a.hands) l4
     (hands_are a.hands 0 r.hands t.causes t.ascending) m4 (stops_all_hands a _) in
-    let song = saved_part form a.saved a6 l5 f.song r.saved m5 (stops_end (saved form) run.status (length a.ticks) (saved_refuses_end form)) in
+    let song = saved_part form a.saved a6 l5 f.song r.saved m5
+    (stops_end (saved form) run.status (length a.ticks) (saved_refuses_end form)) in
     let e8 : one_line (said (end form (length a.ticks))) (at_place song.0 l5) ≡ Ok (run.status, at_place (song.0 + 1) ([] ∷ [])) =
     one_back (said (end form (length a.ticks))) song.0 (end_line run.status (length a.ticks)) ([] ∷ []) run.status refl
     (end_back form run.status (length a.ticks) t.status f.ending) in
@@ -216,7 +219,8 @@ if_some (Some s) P p = p
 pub in_form_2 : (a : Account) → IsTellable a → HasRanges a → InForm 2 a
 in_form_2 a t r = record {
   first = head_back;
-  entries = all_too EntryHasRanges (λ e. TextGives 2 e.batch) a.entries (λ e ranges. text_gives 2 e.batch ranges.3 (ranges.3).few) r.entries;
+  entries = all_too EntryHasRanges (λ e. TextGives 2 e.batch) a.entries
+      (λ e ranges. text_gives 2 e.batch ranges.3 (ranges.3).few) r.entries;
   refusals = all_too RefusalHasRanges (TellsRefusal 2) a.refusals
       (λ f ranges. (text_gives 2 f.batch ranges.2 (ranges.2).few, places_told f.cause ranges.3)) r.refusals;
   song = if_some a.saved (TellsSaved 2) refl;

@@ -80,28 +80,32 @@ unfolding ledger_of ledger over maybe_line many lines_from one_line word batch b
     tempo_reading bpm_reading cell_reading newins_reading u8 u16 u32 next_word spaces word_length digits encode_with decode_pairs
 no_play = refl
 
-two_spaces : ledger_of (joined (first ∷ codes "play 44100  60 16384 8" ∷ made ∷ no_row ∷ full ∷ tick_0 ∷ tick_1 ∷ hand_0 ∷ hand_2 ∷ song ∷ last ∷ []))
+two_spaces : ledger_of
+    (joined (first ∷ codes "play 44100  60 16384 8" ∷ made ∷ no_row ∷ full ∷ tick_0 ∷ tick_1 ∷ hand_0 ∷ hand_2 ∷ song ∷ last ∷ []))
     ≡ Err 2
 unfolding ledger_of ledger over maybe_line many lines_from one_line word batch batch_of fault cause ledger_text ledger_lines
     batch_text edit_text beginning timed_reading time_reading edits_reading others_reading another_reading edit_reading readings
     tempo_reading bpm_reading cell_reading newins_reading u8 u16 u32 next_word spaces word_length digits encode_with decode_pairs
 two_spaces = refl
 
-form_1_has_no_place : ledger_of (joined (codes "xmstudio ledger 1" ∷ play ∷ made ∷ no_row ∷ full ∷ tick_0 ∷ tick_1 ∷ hand_0 ∷ hand_2 ∷ song ∷ last ∷ []))
+form_1_has_no_place : ledger_of
+    (joined (codes "xmstudio ledger 1" ∷ play ∷ made ∷ no_row ∷ full ∷ tick_0 ∷ tick_1 ∷ hand_0 ∷ hand_2 ∷ song ∷ last ∷ []))
     ≡ Err 3
 unfolding ledger_of ledger over maybe_line many lines_from one_line word batch batch_of fault cause ledger_text ledger_lines
     batch_text edit_text beginning timed_reading time_reading edits_reading others_reading another_reading edit_reading readings
     tempo_reading bpm_reading cell_reading newins_reading u8 u16 u32 next_word spaces word_length digits encode_with decode_pairs
 form_1_has_no_place = refl
 
-trailing_space : ledger_of (joined (first ∷ play ∷ codes "c 1 0 1 tempo 3 " ∷ no_row ∷ full ∷ tick_0 ∷ tick_1 ∷ hand_0 ∷ hand_2 ∷ song ∷ last ∷ []))
+trailing_space : ledger_of
+    (joined (first ∷ play ∷ codes "c 1 0 1 tempo 3 " ∷ no_row ∷ full ∷ tick_0 ∷ tick_1 ∷ hand_0 ∷ hand_2 ∷ song ∷ last ∷ []))
     ≡ Err 3
 unfolding ledger_of ledger over maybe_line many lines_from one_line word batch batch_of fault cause ledger_text ledger_lines
     batch_text edit_text beginning timed_reading time_reading edits_reading others_reading another_reading edit_reading readings
     tempo_reading bpm_reading cell_reading newins_reading u8 u16 u32 next_word spaces word_length digits encode_with decode_pairs
 trailing_space = refl
 
-a_time : ledger_of (joined (first ∷ play ∷ codes "c 1 0 1 at 1 tempo 3" ∷ no_row ∷ full ∷ tick_0 ∷ tick_1 ∷ hand_0 ∷ hand_2 ∷ song ∷ last ∷ []))
+a_time : ledger_of
+    (joined (first ∷ play ∷ codes "c 1 0 1 at 1 tempo 3" ∷ no_row ∷ full ∷ tick_0 ∷ tick_1 ∷ hand_0 ∷ hand_2 ∷ song ∷ last ∷ []))
     ≡ Err 3
 unfolding ledger_of ledger over maybe_line many lines_from one_line word batch batch_of fault cause ledger_text ledger_lines
     batch_text edit_text beginning timed_reading time_reading edits_reading others_reading another_reading edit_reading readings
@@ -115,7 +119,8 @@ unfolding ledger_of ledger over maybe_line many lines_from one_line word batch b
     tempo_reading bpm_reading cell_reading newins_reading u8 u16 u32 next_word spaces word_length digits encode_with decode_pairs
 tick_missing = refl
 
-hands_descend : ledger_of (joined (first ∷ play ∷ made ∷ no_row ∷ full ∷ tick_0 ∷ tick_1 ∷ codes "h 2 failed 3" ∷ hand_2 ∷ song ∷ last ∷ []))
+hands_descend : ledger_of
+    (joined (first ∷ play ∷ made ∷ no_row ∷ full ∷ tick_0 ∷ tick_1 ∷ codes "h 2 failed 3" ∷ hand_2 ∷ song ∷ last ∷ []))
     ≡ Err 9
 unfolding ledger_of ledger over maybe_line many lines_from one_line word batch batch_of fault cause ledger_text ledger_lines
     batch_text edit_text beginning timed_reading time_reading edits_reading others_reading another_reading edit_reading readings

@@ -10,7 +10,8 @@ abbrev pub front : {A : Type 0} → List A → List A × List (List ℕ) → Lis
 front xs read = (xs ++ read.0, read.1)
 
 -- a line that has a value
-pub goes_on : {S A : Type 0} (value : S → List ℕ → Option A) (moved : S → A → S) (state : S) (line : List ℕ) (rest parts : List (List ℕ)) (x : A) (xs : List A)
+pub goes_on : {S A : Type 0} (value : S → List ℕ → Option A) (moved : S → A → S) (state : S) (line : List ℕ) (rest parts : List (List ℕ))
+    (x : A) (xs : List A)
     → parts ≡ line ∷ rest → (length rest == 0) ≡ false → value state line ≡ Some x
     → front (xs ++ x ∷ []) (lines_from value moved (moved state x) rest) ≡ front xs (lines_from value moved state parts)
 unfolding lines_from
@@ -51,7 +52,8 @@ are_all value moved first state start p xs read counted over =
     ∙ ap (λ n. Ok (xs, record { at = n; left = p.left })) (sym counted)
 
 -- so many were read up to a place
-pub record IsRead {S A : Type 0} (value : S → List ℕ → Option A) (moved : S → A → S) (first state : S) (start p : Place) (xs : List A) : Type 0 where
+pub record IsRead {S A : Type 0} (value : S → List ℕ → Option A) (moved : S → A → S) (first state : S) (start p : Place)
+    (xs : List A) : Type 0 where
   pub read : front xs (lines_from value moved state p.left) ≡ lines_from value moved first start.left
   pub count : p.at ≡ start.at + length xs
 

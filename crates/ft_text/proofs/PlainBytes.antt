@@ -17,7 +17,8 @@ plain w = list_all is_plain w
 
 pub plain_append : (v w : List ℕ) → plain v ≡ true → plain w ≡ true → plain (v ++ w) ≡ true
 plain_append [] w a b = b
-plain_append (x ∷ v) w a b = let parts = and_parts (is_plain x) (plain v) a in and_from (is_plain x) (plain (v ++ w)) parts.0 (plain_append v w parts.1 b)
+plain_append (x ∷ v) w a b = let parts = and_parts (is_plain x) (plain v) a in and_from (is_plain x) (plain (v ++ w)) parts.0
+    (plain_append v w parts.1 b)
 
 -- ---- numbers
 
@@ -25,14 +26,17 @@ plain_glyph : (d : ℕ) → d < 10 → is_plain (digit_glyph false d) ≡ true
 plain_glyph d low =
     ap is_plain (cond-true _ (48 + d) _ (lt-ltb d 10 low))
     ∙ and_from (not ((48 + d) == 32) && not ((48 + d) == 10)) (not ((48 + d) == 59))
-    (and_from (not ((48 + d) == 32)) (not ((48 + d) == 10)) (ap not (ne_eqb (48 + d) 32 (λ e. omega arith))) (ap not (ne_eqb (48 + d) 10 (λ e. omega arith))))
+    (and_from (not ((48 + d) == 32)) (not ((48 + d) == 10)) (ap not (ne_eqb (48 + d) 32 (λ e. omega arith)))
+    (ap not (ne_eqb (48 + d) 10 (λ e. omega arith))))
     (ap not (ne_eqb (48 + d) 59 (λ e. omega arith)))
 
 plain_onto : (k n : ℕ) (acc : List ℕ) → plain acc ≡ true → plain (digits_onto k 10 false n acc) ≡ true
 plain_onto zero n acc all = all
 plain_onto (suc k) n acc all =
-    let first : plain (digit_glyph false (n % 10) ∷ acc) ≡ true = and_from (is_plain (digit_glyph false (n % 10))) (plain acc) (plain_glyph (n % 10) (omega arith)) all in
-    cond_both (n / 10 == 0) _ _ (λ w. plain w ≡ true) (λ is. first) (λ other. plain_onto k (n / 10) (digit_glyph false (n % 10) ∷ acc) first)
+    let first : plain (digit_glyph false (n % 10) ∷ acc) ≡ true = and_from (is_plain (digit_glyph false (n % 10))) (plain acc)
+    (plain_glyph (n % 10) (omega arith)) all in
+    cond_both (n / 10 == 0) _ _ (λ w. plain w ≡ true) (λ is. first)
+    (λ other. plain_onto k (n / 10) (digit_glyph false (n % 10) ∷ acc) first)
 
 pub plain_decimal : (n : ℕ) → plain (decimal n) ≡ true
 unfolding digits
@@ -63,7 +67,8 @@ all_plain words = list_all plain words
 
 pub words_append : (v w : List (List ℕ)) → all_plain v ≡ true → all_plain w ≡ true → all_plain (v ++ w) ≡ true
 words_append [] w a b = b
-words_append (x ∷ v) w a b = let parts = and_parts (plain x) (all_plain v) a in and_from (plain x) (all_plain (v ++ w)) parts.0 (words_append v w parts.1 b)
+words_append (x ∷ v) w a b = let parts = and_parts (plain x) (all_plain v) a in and_from (plain x) (all_plain (v ++ w)) parts.0
+    (words_append v w parts.1 b)
 
 pub plain_numbers : (ns : List ℕ) → all_plain (numbers ns) ≡ true
 plain_numbers [] = refl
@@ -104,8 +109,10 @@ plain_words (edits.Newsmp i) = plain_numbers (i ∷ [])
 plain_words (edits.Delsmp i) = plain_numbers (i ∷ [])
 plain_words (edits.Smpname i s name) = numbers_and (i ∷ s ∷ []) (encode_lower name) (plain_hex name)
 plain_words (edits.Smp i s vol fine rel pan) =
-    words_append (numbers (i ∷ s ∷ vol ∷ [])) (signed_decimal fine ∷ signed_decimal rel ∷ decimal pan ∷ []) (plain_numbers (i ∷ s ∷ vol ∷ []))
-    (and_from (plain (signed_decimal fine)) _ (plain_signed fine) (and_from (plain (signed_decimal rel)) _ (plain_signed rel) (one_word (decimal pan) (plain_decimal pan))))
+    words_append (numbers (i ∷ s ∷ vol ∷ [])) (signed_decimal fine ∷ signed_decimal rel ∷ decimal pan ∷ [])
+    (plain_numbers (i ∷ s ∷ vol ∷ []))
+    (and_from (plain (signed_decimal fine)) _ (plain_signed fine)
+    (and_from (plain (signed_decimal rel)) _ (plain_signed rel) (one_word (decimal pan) (plain_decimal pan))))
 plain_words (edits.Loop i s kind start len) = plain_numbers (i ∷ s ∷ kind ∷ start ∷ len ∷ [])
 plain_words (edits.Cut i s from to) = plain_numbers (i ∷ s ∷ from ∷ to ∷ [])
 plain_words (edits.Paste i s at frames) = numbers_and (i ∷ s ∷ at ∷ []) (encode_lower (frame_bytes frames)) (plain_hex (frame_bytes frames))

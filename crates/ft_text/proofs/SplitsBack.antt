@@ -37,10 +37,12 @@ avoids_where by each (b ∷ w) all =
     and_from (not (b == by)) (avoids by w) (each b parts.0) (avoids_where by each w parts.1)
 
 pub no_space : (w : List ℕ) → plain w ≡ true → avoids 32 w ≡ true
-no_space = avoids_where 32 (λ b is. (and_parts (not (b == 32)) (not (b == 10)) (and_parts (not (b == 32) && not (b == 10)) (not (b == 59)) is).0).0)
+no_space = avoids_where 32
+    (λ b is. (and_parts (not (b == 32)) (not (b == 10)) (and_parts (not (b == 32) && not (b == 10)) (not (b == 59)) is).0).0)
 
 pub no_lf : (w : List ℕ) → plain w ≡ true → avoids 10 w ≡ true
-no_lf = avoids_where 10 (λ b is. (and_parts (not (b == 32)) (not (b == 10)) (and_parts (not (b == 32) && not (b == 10)) (not (b == 59)) is).0).1)
+no_lf = avoids_where 10
+    (λ b is. (and_parts (not (b == 32)) (not (b == 10)) (and_parts (not (b == 32) && not (b == 10)) (not (b == 59)) is).0).1)
 
 pub no_separator : (w : List ℕ) → plain w ≡ true → avoids 59 w ≡ true
 no_separator = avoids_where 59 (λ b is. (and_parts (not (b == 32) && not (b == 10)) (not (b == 59)) is).1)

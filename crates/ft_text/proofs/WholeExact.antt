@@ -35,7 +35,8 @@ not_both n x h = absurd (cc)
 one_exact : {A : Type 0} (value : List ℕ → Option A) (p q : Place) (x : A) → one_line value p ≡ Ok (x, q) → OneLine value p.left x q
 unfolding one_line
 one_exact {A} value p q x h = go p.left h where
-  line_go : (line : List ℕ) (rest : List (List ℕ)) (o : Option A) → value line ≡ o → line_or_wrong p.at rest o ≡ Ok (x, q) → OneLine value (line ∷ rest) x q
+  line_go : (line : List ℕ) (rest : List (List ℕ)) (o : Option A) → value line ≡ o → line_or_wrong p.at rest o ≡ Ok (x, q)
+      → OneLine value (line ∷ rest) x q
   line_go line rest None e k = not_both (line_number p.at) (x, q) k
   line_go line rest (Some y) e k =
       let same = pair_ok y x (record { at = p.at + 1; left = rest }) q k in
@@ -44,7 +45,8 @@ one_exact {A} value p q x h = go p.left h where
   go : (left : List (List ℕ)) → line_at value p.at left ≡ Ok (x, q) → OneLine value left x q
   go [] k = not_both (line_number p.at) (x, q) k
   go (line ∷ rest) k = elim (cases_Bool (length rest == 0)) [
-    | inl so ↦ not_both (line_number p.at) (x, q) (sym (cond-true (length rest == 0) (Err (line_number p.at)) (line_or_wrong p.at rest (value line)) so) ∙ k)
+    | inl so ↦ not_both (line_number p.at) (x, q)
+        (sym (cond-true (length rest == 0) (Err (line_number p.at)) (line_or_wrong p.at rest (value line)) so) ∙ k)
     | inr other ↦ line_go line rest (value line) refl
         (sym (cond-false (length rest == 0) (Err (line_number p.at)) (line_or_wrong p.at rest (value line)) other) ∙ k)
   ]
@@ -59,7 +61,8 @@ written line moved state (x ∷ xs) = line state x ∷ written line moved (moved
 pair_is : {A : Type 0} (r s : List A × List (List ℕ)) → r ≡ s → (r.0 ≡ s.0) × (r.1 ≡ s.1)
 pair_is r s h = (ap (λ p. p.0) h, ap (λ p. p.1) h)
 
-nothing_read : {S A : Type 0} (line : S → A → List ℕ) (moved : S → A → S) (state : S) (parts : List (List ℕ)) (xs : List A) (rest : List (List ℕ))
+nothing_read : {S A : Type 0} (line : S → A → List ℕ) (moved : S → A → S) (state : S) (parts : List (List ℕ)) (xs : List A)
+    (rest : List (List ℕ))
     → ◌≡◌ {A = List A × List (List ℕ)} ([], parts) (xs, rest) → parts ≡ written line moved state xs ++ rest
 nothing_read {S} {A} line moved state parts xs rest h =
     let none : List A × List (List ℕ) = ([], parts) in
@@ -76,7 +79,8 @@ lines_exact {S} {A} value moved line exact (l ∷ parts) state xs rest h =
     let more : A → List A × List (List ℕ) = λ x. lines_from value moved (moved state x) parts in
     let here = l ∷ parts in
     elim (cases_Bool (length parts == 0)) [
-      | inl so ↦ nothing_read line moved state here xs rest (sym (cond-true (length parts == 0) ([], here) (while_some here (value state l) more) so) ∙ h)
+      | inl so ↦ nothing_read line moved state here xs rest
+          (sym (cond-true (length parts == 0) ([], here) (while_some here (value state l) more) so) ∙ h)
       | inr other ↦
           let k : while_some here (value state l) more ≡ (xs, rest) =
           sym (cond-false (length parts == 0) ([], here) (while_some here (value state l) more) other) ∙ h in
@@ -117,10 +121,12 @@ written_ticks n (t ∷ ticks) = ap (λ r. tick_line n t ∷ r) (written_ticks (s
 
 -- ---- the song that was saved, and the end
 
-saved_part_is : (form : ℕ) (p q : Place) (s : Option SavedLine) → maybe_line (said (saved form)) p ≡ Ok (s, q) → p.left ≡ saved_lines s ++ q.left
+saved_part_is : (form : ℕ) (p q : Place) (s : Option SavedLine) → maybe_line (said (saved form)) p ≡ Ok (s, q)
+    → p.left ≡ saved_lines s ++ q.left
 unfolding maybe_line
 saved_part_is form p q s h =
-    let go : (r : Result (SavedLine × Place) ℕ) → one_line (said (saved form)) p ≡ r → none_or p r ≡ Ok (s, q) → p.left ≡ saved_lines s ++ q.left =
+    let go : (r : Result (SavedLine × Place) ℕ) → one_line (said (saved form)) p ≡ r → none_or p r ≡ Ok (s, q)
+    → p.left ≡ saved_lines s ++ q.left =
     λ r. elim r as (λ r. one_line (said (saved form)) p ≡ r → none_or p r ≡ Ok (s, q) → p.left ≡ saved_lines s ++ q.left) [
       | Ok read ↦ λ e k.
           let same = pair_ok (Some read.0) s read.1 q k in
@@ -228,7 +234,8 @@ abbrev entries_on : ℕ → Account → List (List ℕ)
 entries_on form a = map entry_line a.entries ++ refusals_on form a
 
 -- these parts are those of the account
-pub record Made (run : Run) (es : List Entry) (rs : List Refusal) (ts : List TickReport) (hs : List HandEnd) (s : Option SavedLine) (a : Account) : Type 0 where
+pub record Made (run : Run) (es : List Entry) (rs : List Refusal) (ts : List TickReport) (hs : List HandEnd) (s : Option SavedLine)
+    (a : Account) : Type 0 where
   pub asked : record run { status = a.run.status } ≡ a.run
   pub entries : es ≡ a.entries
   pub refusals : rs ≡ a.refusals
@@ -236,7 +243,8 @@ pub record Made (run : Run) (es : List Entry) (rs : List Refusal) (ts : List Tic
   pub hands : hs ≡ a.hands
   pub saved : s ≡ a.saved
 
-made_is : (run : Run) (es : List Entry) (rs : List Refusal) (ts : List TickReport) (hs : List HandEnd) (s : Option SavedLine) (status : ℕ) (a : Account)
+made_is : (run : Run) (es : List Entry) (rs : List Refusal) (ts : List TickReport) (hs : List HandEnd) (s : Option SavedLine) (status : ℕ)
+    (a : Account)
     → made_of run es rs ts hs s status ≡ a → (status ≡ a.run.status) × Made run es rs ts hs s a
 made_is run es rs ts hs s status a e =
     let same : status ≡ a.run.status = ap (λ a. a.run.status) e in (
@@ -260,7 +268,8 @@ end_exact form run es rs ts hs s p q a h =
     let line = one_exact (said (end form (length ts))) p k.place k.x k.first in
     let made = made_is run es rs ts hs s k.x a last.0 in
     let here : p.left ≡ end_line k.x (length ts) ∷ [] ∷ [] =
-    line.parts ∙ ap (λ l. l ∷ k.place.left) (end_line_is form (length ts) line.line k.x line.says) ∙ ap (λ r. end_line k.x (length ts) ∷ r) last.1 in
+    line.parts ∙ ap (λ l. l ∷ k.place.left) (end_line_is form (length ts) line.line k.x line.says)
+    ∙ ap (λ r. end_line k.x (length ts) ∷ r) last.1 in
     (here ∙ ap (λ n. end_line n (length ts) ∷ [] ∷ []) made.0 ∙ ap (λ ts. end_line a.run.status (length ts) ∷ [] ∷ []) made.1.ticks, made.1)
 
 saved_exact : (form : ℕ) (run : Run) (es : List Entry) (rs : List Refusal) (ts : List TickReport) (hs : List HandEnd)
@@ -270,7 +279,8 @@ saved_exact form run es rs ts hs p q a h =
     let k = followed (maybe_line (said (saved form)) p) (from_end form run es rs ts hs) y h in
     let rest = end_exact form run es rs ts hs k.x k.place q a k.behind in
     let made = rest.1 in (
-      saved_part_is form p k.place k.x k.first ∙ ap (λ s. saved_lines s ++ k.place.left) made.saved ∙ ap (λ r. saved_lines a.saved ++ r) rest.0,
+      saved_part_is form p k.place k.x k.first ∙ ap (λ s. saved_lines s ++ k.place.left) made.saved
+          ∙ ap (λ r. saved_lines a.saved ++ r) rest.0,
       record { asked = made.asked; entries = made.entries; refusals = made.refusals; ticks = made.ticks; hands = made.hands; saved = refl },
     )
 
@@ -343,7 +353,8 @@ play_exact form p q a h =
 lines_are : (form : ℕ) (a : Account) → head_line form ∷ (play_line a.run ∷ entries_on form a) ≡ ledger_lines form a ++ [] ∷ []
 unfolding ledger_lines
 lines_are form a =
-    sym (regroup (head_line form ∷ play_line a.run ∷ []) (map entry_line a.entries) (map (refusal_line form) a.refusals) (tick_lines 0 a.ticks)
+    sym (regroup (head_line form ∷ play_line a.run ∷ []) (map entry_line a.entries) (map (refusal_line form) a.refusals)
+    (tick_lines 0 a.ticks)
     (map hand_line a.hands) (saved_lines a.saved) (end_line a.run.status (length a.ticks) ∷ []) ([] ∷ []))
 
 pub whole_exact : (bytes : List ℕ) (a : Account) → ledger_of bytes ≡ Ok a → IsLedgerOf bytes a

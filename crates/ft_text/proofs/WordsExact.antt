@@ -37,13 +37,14 @@ number_is most n w h = elim (cases_Bool (bytes_eq w (decimal (digits_value 10 w)
 ]
 
 pub signed_is : (most : ℕ) (n : ℤ) (w : List ℕ) → signed_of most w ≡ Some n → w ≡ signed_decimal n
-signed_is most n w h = elim (cases_Bool (bytes_eq w (signed_decimal (signed_digits_value 10 w)) && is_within most (signed_digits_value 10 w))) [
-  | inl so ↦
-      let e : Some (signed_digits_value 10 w) ≡ Some n = sym (cond-true _ (Some (signed_digits_value 10 w)) None so) ∙ h in
-      let same : signed_digits_value 10 w ≡ n = cc in
-      (bytes_eq-Decides w (signed_decimal (signed_digits_value 10 w))).0 (and_parts _ _ so).0 ∙ ap signed_decimal same
-  | inr other ↦ absurd (cc (cond-false _ (Some (signed_digits_value 10 w)) None other, h))
-]
+signed_is most n w h = elim
+    (cases_Bool (bytes_eq w (signed_decimal (signed_digits_value 10 w)) && is_within most (signed_digits_value 10 w))) [
+      | inl so ↦
+          let e : Some (signed_digits_value 10 w) ≡ Some n = sym (cond-true _ (Some (signed_digits_value 10 w)) None so) ∙ h in
+          let same : signed_digits_value 10 w ≡ n = cc in
+          (bytes_eq-Decides w (signed_decimal (signed_digits_value 10 w))).0 (and_parts _ _ so).0 ∙ ap signed_decimal same
+      | inr other ↦ absurd (cc (cond-false _ (Some (signed_digits_value 10 w)) None other, h))
+    ]
 
 pub this_is : (wanted x w : List ℕ) → this_word wanted w ≡ Some x → w ≡ wanted
 this_is wanted x w h = elim (cases_Bool (bytes_eq w wanted)) [
@@ -65,7 +66,8 @@ passed test (Some y) x h = elim (cases_Bool (test y)) [
 -- ---- what was taken
 
 -- the word that a reading took first, its value, and what was read behind it
-pub record Took {A B : Type 0} (value : List ℕ → Option A) (next : A → Taking B) (words : List (List ℕ)) (y : B × List (List ℕ)) : Type 0 where
+pub record Took {A B : Type 0} (value : List ℕ → Option A) (next : A → Taking B) (words : List (List ℕ))
+    (y : B × List (List ℕ)) : Type 0 where
   pub w : List ℕ
   pub x : A
   pub rest : List (List ℕ)
@@ -124,8 +126,11 @@ play_exact words rest run h =
       number_is _ c.x c.w c.value_is,
       number_is _ d.x d.w d.value_is,
       number_is _ e.x e.w e.value_is,
-    ) in
-    (all ∙ ap (λ r. codes "play" ∷ (numbers (r.rate ∷ r.seconds ∷ r.segments ∷ r.channels ∷ []) ++ rest)) last.0, sym (ap (λ r. r.status) last.0))
+    ) in (
+      all ∙ ap (λ r. codes "play" ∷ (numbers (r.rate ∷ r.seconds ∷ r.segments ∷ r.channels ∷ []) ++ rest)) last.0,
+      sym
+          (ap (λ r. r.status) last.0),
+    )
 
 number_within : (most n : ℕ) (w : List ℕ) → number_of most w ≡ Some n → n ≤ most
 number_within most n w h = elim (cases_Bool (bytes_eq w (decimal (digits_value 10 w)) && nat_le (digits_value 10 w) most)) [
@@ -376,7 +381,8 @@ cut_exact words rest f h =
 of_number : (k n : ℕ) (words rest : List (List ℕ)) (f : EditFault) → k ≡ n → FaultIs n words f rest → FaultIs k words f rest
 of_number k n words rest f e is = ap (λ m. decimal m ∷ words) e ∙ is
 
-nothing_else : (k : ℕ) (words rest : List (List ℕ)) (f : EditFault) → ◌≡◌ {A = Option (EditFault × List (List ℕ))} None (Some (f, rest)) → FaultIs k words f rest
+nothing_else : (k : ℕ) (words rest : List (List ℕ)) (f : EditFault) → ◌≡◌ {A = Option (EditFault × List (List ℕ))} None (Some (f, rest))
+    → FaultIs k words f rest
 nothing_else k words rest f none = absurd (cc)
 
 fault_by_exact : (k : ℕ) (words rest : List (List ℕ)) (f : EditFault) → fault_by k words ≡ Some (f, rest) → FaultIs k words f rest
@@ -432,7 +438,8 @@ pub record Followed {A B : Type 0} (r : Option (A × List (List ℕ))) (next : A
   pub first : r ≡ Some (x, rest)
   pub behind : next x rest ≡ Some y
 
-pub followed : {A B : Type 0} (r : Option (A × List (List ℕ))) (next : A → Taking B) (y : B × List (List ℕ)) → follow next r ≡ Some y → Followed r next y
+pub followed : {A B : Type 0} (r : Option (A × List (List ℕ))) (next : A → Taking B) (y : B × List (List ℕ)) → follow next r ≡ Some y
+    → Followed r next y
 followed None next y h = absurd (cc)
 followed (Some taken) next y h = record { x = taken.0; rest = taken.1; first = refl; behind = h }
 
@@ -474,14 +481,16 @@ full_exact form words rest c h =
     let a = took (number_of 4294967295) _ words (c, rest) h in
     let b = took (number_of 4294967295) _ a.rest (c, rest) a.behind in
     let last = given (faults.Full a.x b.x) c b.rest rest b.behind in
-    ap (λ r. codes "full" ∷ r) (link a.words_are (number_is _ a.x a.w a.value_is) (link b.words_are (number_is _ b.x b.w b.value_is) last.1))
+    ap (λ r. codes "full" ∷ r)
+    (link a.words_are (number_is _ a.x a.w a.value_is) (link b.words_are (number_is _ b.x b.w b.value_is) last.1))
     ∙ ap (λ c. cause_words form c ++ rest) last.0
 
 no_cause_left : (form : ℕ) (w : List ℕ) (words rest : List (List ℕ)) (c : CommitFault) (x : Taking CommitFault)
     → ◌≡◌ {A = Option (Taking CommitFault)} None (Some x) → w ∷ words ≡ cause_words form c ++ rest
 no_cause_left form w words rest c x none = absurd (cc)
 
-pub cause_exact : (form : ℕ) (words rest : List (List ℕ)) (c : CommitFault) → cause form words ≡ Some (c, rest) → words ≡ cause_words form c ++ rest
+pub cause_exact : (form : ℕ) (words rest : List (List ℕ)) (c : CommitFault) → cause form words ≡ Some (c, rest)
+    → words ≡ cause_words form c ++ rest
 unfolding cause
 cause_exact form words rest c h =
     let a = took (named (cause_readings form)) (λ reading. reading) words (c, rest) h in
@@ -502,7 +511,8 @@ cause_exact form words rest c h =
 
 -- ---- batches
 
-text_of_batch : (most : ℕ) (text : List ℕ) (o : Option (List Edit)) (edits : List Edit) → if_text most text o ≡ Some edits → batch_text edits ≡ text
+text_of_batch : (most : ℕ) (text : List ℕ) (o : Option (List Edit)) (edits : List Edit) → if_text most text o ≡ Some edits
+    → batch_text edits ≡ text
 text_of_batch most text None edits h = absurd (cc)
 text_of_batch most text (Some es) edits h = elim (cases_Bool (nat_le (length es) most && bytes_eq (batch_text es) text)) [
   | inl so ↦
@@ -532,11 +542,18 @@ pub record IsBatchText (words rest : List (List ℕ)) (edits : List Edit) : Type
   pub text : batch_text edits ≡ join_with_byte 32 (first ∷ others)
   pub none_left : rest ≡ []
 
-pub batch_exact : (form : ℕ) (words rest : List (List ℕ)) (edits : List Edit) → batch form words ≡ Some (edits, rest) → IsBatchText words rest edits
+pub batch_exact : (form : ℕ) (words rest : List (List ℕ)) (edits : List Edit) → batch form words ≡ Some (edits, rest)
+    → IsBatchText words rest edits
 unfolding batch
 batch_exact form [] rest edits h =
     let e = with_rest_is (batch_of (most_edits form) []) edits rest h in
     absurd (cc (nothing_is_no_batch (most_edits form), e.0))
 batch_exact form (first ∷ others) rest edits h =
     let e = with_rest_is (batch_of (most_edits form) (join_with_byte 32 (first ∷ others))) edits rest h in
-    record { first = first; others = others; words_are = refl; text = batch_of_is (most_edits form) (join_with_byte 32 (first ∷ others)) edits e.0; none_left = e.1 }
+    record {
+      first = first;
+      others = others;
+      words_are = refl;
+      text = batch_of_is (most_edits form) (join_with_byte 32 (first ∷ others)) edits e.0;
+      none_left = e.1;
+    }

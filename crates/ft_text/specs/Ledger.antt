@@ -23,12 +23,15 @@ head_line form = text_of_words (codes "xmstudio" ∷ codes "ledger" ∷ decimal 
 
 -- what was asked for: frames a second, seconds, segments; and the channels of the song
 abbrev pub play_line : Run → List ℕ
-play_line run = text_of_words (codes "play" ∷ numbers (run.rate ∷ run.seconds ∷ run.segments ∷ run.channels ∷ []))
+play_line run = text_of_words
+    (codes "play" ∷ numbers (run.rate ∷ run.seconds ∷ run.segments ∷ run.channels ∷ []))
 
--- a batch that was committed: the version that it made, its hand, which of the hand's it is, its edits
+-- a batch that was committed: the version that it made, its hand, which of the hand's it is,
+-- its edits
 abbrev pub entry_line : Entry → List ℕ
 entry_line entry =
-    text_of_words (codes "c" ∷ numbers (entry.version ∷ entry.hand ∷ entry.seq ∷ [])) ++ (32 ∷ batch_text entry.batch)
+    text_of_words (codes "c" ∷ numbers (entry.version ∷ entry.hand ∷ entry.seq ∷ [])) ++
+    (32 ∷ batch_text entry.batch)
 
 -- the number of a fault, and its own numbers
 abbrev pub fault_words : EditFault → List (List ℕ)
@@ -46,24 +49,27 @@ fault_words (causes.Cut from to frames) = numbers (9 ∷ from ∷ to ∷ frames 
 abbrev pub place_words : ℕ → ℕ → List (List ℕ)
 place_words form at = if form == 1 then [] else numbers (at ∷ [])
 
--- why a batch was refused: an edit's fault, no version after this one, or too few free segments; want
--- of memory is never told
+-- why a batch was refused: an edit's fault, no version after this one, or too few free segments;
+-- want of memory is never told
 abbrev pub cause_words : ℕ → CommitFault → List (List ℕ)
 cause_words form (faults.Edit at fault) = (codes "edit" ∷ place_words form at) ++ fault_words fault
 cause_words form (faults.Worn version) = codes "worn" ∷ numbers (version ∷ [])
 cause_words form faults.NoMemory = []
 cause_words form (faults.Full need free) = codes "full" ∷ numbers (need ∷ free ∷ [])
 
--- a batch that was refused: its hand, which of the hand's it is, why, its edits
+-- a batch that was refused: its hand, which of the hand's batches it is, why, its edits
 abbrev pub refusal_line : ℕ → Refusal → List ℕ
 refusal_line form refusal =
-    text_of_words ((codes "r" ∷ numbers (refusal.hand ∷ refusal.seq ∷ [])) ++ cause_words form refusal.cause)
+    text_of_words
+    ((codes "r" ∷ numbers (refusal.hand ∷ refusal.seq ∷ [])) ++ cause_words form refusal.cause)
     ++ (32 ∷ batch_text refusal.batch)
 
 -- a tick: its number, its version, its place in the song, its frames
 abbrev pub tick_line : ℕ → TickReport → List ℕ
 tick_line n tick =
-    text_of_words (codes "t" ∷ numbers (n ∷ tick.version ∷ tick.order ∷ tick.row ∷ tick.tick ∷ tick.frames ∷ []))
+    text_of_words
+    (codes "t" ∷ numbers
+    (n ∷ tick.version ∷ tick.order ∷ tick.row ∷ tick.tick ∷ tick.frames ∷ []))
 
 -- the ticks, numbered from n
 abbrev pub tick_lines : ℕ → List TickReport → List (List ℕ)
@@ -80,7 +86,8 @@ hand_cause cause =
 
 -- a hand that ended early, and its line or how many batches it gave
 abbrev pub hand_line : HandEnd → List ℕ
-hand_line end = text_of_words (codes "h" ∷ decimal end.hand ∷ hand_cause end.cause ∷ decimal end.at ∷ [])
+hand_line end = text_of_words
+    (codes "h" ∷ decimal end.hand ∷ hand_cause end.cause ∷ decimal end.at ∷ [])
 
 -- the song that was saved: its version and how many bytes it has
 abbrev pub saved_line : SavedLine → List ℕ

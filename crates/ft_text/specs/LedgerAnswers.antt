@@ -12,7 +12,8 @@ parts_of by None = []
 parts_of by (Some bytes) = slice_split (λ b. b == by) bytes
 
 -- what was taken from words is what this reading gives, and these are left behind it
-abbrev pub Takes : {X A : Type 0} → (X → A) → Option X → List (List ℕ) → Option (A × List (List ℕ)) → Type 0
+abbrev pub Takes : {X A : Type 0} → (X → A) → Option X → List (List ℕ) → Option (A × List (List ℕ))
+    → Type 0
 Takes view None rest taken = taken ≡ None
 Takes view (Some x) rest taken = taken ≡ Some (view x, rest)
 
@@ -42,6 +43,7 @@ Fails NoMemory read = Unit {0}
 Fails (Line line) read = read ≡ Err line
 
 -- what was answered at a place is this reading, which goes on at the next place
-abbrev pub Reads : {X A : Type 0} → (X → A) → Result X LedgerFault → Place → Result (A × Place) ℕ → Type 0
+abbrev pub Reads : {X A : Type 0} → (X → A) → Result X LedgerFault → Place → Result (A × Place) ℕ
+    → Type 0
 Reads view (Ok x) next read = read ≡ Ok (view x, next)
 Reads view (Err fault) next read = Fails fault read

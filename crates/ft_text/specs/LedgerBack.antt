@@ -18,10 +18,12 @@ use Rattle.ft_text.specs.LedgerReading.{ledger_of}
 
 -- the numbers of each part are in the ranges of their types, and a batch has 1 to 16 edits
 abbrev pub RunHasRanges : Run → Type 0
-RunHasRanges run = (run.rate < 2 ^ 32) × (run.seconds < 2 ^ 32) × (run.segments < 2 ^ 16) × (run.channels < 2 ^ 8)
+RunHasRanges run = (run.rate < 2 ^ 32) × (run.seconds < 2 ^ 32) × (run.segments < 2 ^ 16)
+    × (run.channels < 2 ^ 8)
 
 abbrev pub EntryHasRanges : Entry → Type 0
-EntryHasRanges entry = (entry.version < 2 ^ 32) × (entry.hand < 2 ^ 8) × (entry.seq < 2 ^ 32) × IsBatch entry.batch
+EntryHasRanges entry = (entry.version < 2 ^ 32) × (entry.hand < 2 ^ 8) × (entry.seq < 2 ^ 32)
+    × IsBatch entry.batch
 
 abbrev pub FaultHasRanges : EditFault → Type 0
 FaultHasRanges (causes.NoPattern p) = p < 2 ^ 8
@@ -42,11 +44,13 @@ CauseHasRanges (faults.Full need free) = (need < 2 ^ 32) × (free < 2 ^ 32)
 
 abbrev pub RefusalHasRanges : Refusal → Type 0
 RefusalHasRanges refusal =
-    (refusal.hand < 2 ^ 8) × (refusal.seq < 2 ^ 32) × IsBatch refusal.batch × CauseHasRanges refusal.cause
+    (refusal.hand < 2 ^ 8) × (refusal.seq < 2 ^ 32) × IsBatch refusal.batch
+    × CauseHasRanges refusal.cause
 
 abbrev pub TickHasRanges : TickReport → Type 0
 TickHasRanges tick =
-    (tick.version < 2 ^ 32) × (tick.order < 2 ^ 16) × (tick.row < 2 ^ 16) × (tick.tick < 2 ^ 16) × (tick.frames < 2 ^ 32)
+    (tick.version < 2 ^ 32) × (tick.order < 2 ^ 16) × (tick.row < 2 ^ 16) × (tick.tick < 2 ^ 16)
+    × (tick.frames < 2 ^ 32)
 
 abbrev pub HandHasRanges : HandEnd → Type 0
 HandHasRanges end = (end.hand < 2 ^ 8) × (end.at < 2 ^ 32)
@@ -67,10 +71,11 @@ abbrev pub IsFirst : CommitFault → Type 0
 IsFirst (faults.Edit at fault) = at ≡ 0
 IsFirst _ = Unit {0}
 
--- what form 1 can tell: single edits, no saved song, and not the status of one that couldn't be saved
+-- what form 1 can tell: single edits, no saved song, and not the status that a failed save has
 pub record IsOld (account : Account) : Type 0 where
   pub entries : All (λ entry. length entry.batch ≡ 1) account.entries
-  pub refusals : All (λ refusal. (length refusal.batch ≡ 1) × IsFirst refusal.cause) account.refusals
+  pub refusals : All
+      (λ refusal. (length refusal.batch ≡ 1) × IsFirst refusal.cause) account.refusals
   pub saved : account.saved ≡ None
   pub status : account.run.status ≢ 10
 

@@ -10,4 +10,5 @@ IsLedgerOf bytes account = (form : ℕ) × (1 ≤ form) × (form ≤ 2) × (byte
 
 -- nothing else is read
 abbrev pub ReadIsWritten : Type 0
-ReadIsWritten = (bytes : List ℕ) (account : Account) → ledger_of bytes ≡ Ok account → IsLedgerOf bytes account
+ReadIsWritten = (bytes : List ℕ) (account : Account) → ledger_of bytes ≡ Ok account
+    → IsLedgerOf bytes account

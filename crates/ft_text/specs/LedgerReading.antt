@@ -36,18 +36,22 @@ one_line value p = line_at value p.at p.left
 abbrev pub also : {A : Type 0} → A → List A × List (List ℕ) → List A × List (List ℕ)
 also x read = (x ∷ read.0, read.1)
 
-abbrev pub while_some : {A : Type 0} → List (List ℕ) → Option A → (A → List A × List (List ℕ)) → List A × List (List ℕ)
+abbrev pub while_some : {A : Type 0} → List (List ℕ) → Option A → (A → List A × List (List ℕ))
+    → List A × List (List ℕ)
 while_some here None more = ([], here)
 while_some here (Some x) more = also x (more x)
 
 -- the values of lines as far as they have one, and the parts behind them. Which value a line may
 -- have depends on a state, which each value moves on
-unfoldable pub lines_from : {S A : Type 0} → (S → List ℕ → Option A) → (S → A → S) → S → List (List ℕ) → List A × List (List ℕ)
+unfoldable pub lines_from : {S A : Type 0} → (S → List ℕ → Option A) → (S → A → S) → S
+    → List (List ℕ) → List A × List (List ℕ)
 lines_from value moved state [] = ([], [])
 lines_from value moved state (line ∷ rest) =
     if length rest == 0 then ([], line ∷ rest)
-    else while_some (line ∷ rest) (value state line) (λ x. lines_from value moved (moved state x) rest)
+    else while_some (line ∷ rest) (value state line)
+    (λ x. lines_from value moved (moved state x) rest)
 
+-- the values of several lines, and the place behind them
 unfoldable pub many : {S A : Type 0} → (S → List ℕ → Option A) → (S → A → S) → S → Reading (List A)
 many value moved state p =
     let read = lines_from value moved state p.left in
@@ -62,6 +66,7 @@ abbrev pub none_or : {A : Type 0} → Place → Result (A × Place) ℕ → Resu
 none_or p (Ok read) = Ok (Some read.0, read.1)
 none_or p (Err at) = Ok (None, p)
 
+-- its value, or nothing read
 unfoldable pub maybe_line : {A : Type 0} → (List ℕ → Option A) → Reading (Option A)
 maybe_line value p = none_or p (one_line value p)
 

@@ -27,7 +27,8 @@ Taking A = List (List ℕ) → Option (A × List (List ℕ))
 abbrev pub give : {A : Type 0} → A → Taking A
 give x words = Some (x, words)
 
-abbrev pub follow : {A B : Type 0} → (A → Taking B) → Option (A × List (List ℕ)) → Option (B × List (List ℕ))
+abbrev pub follow : {A B : Type 0} → (A → Taking B) → Option (A × List (List ℕ))
+    → Option (B × List (List ℕ))
 follow next None = None
 follow next (Some taken) = next taken.0 taken.1
 
@@ -132,7 +133,13 @@ play = do
   seconds ← u32
   segments ← u16
   channels ← u8
-  give (record { rate = rate; seconds = seconds; segments = segments; channels = channels; status = 0 })
+  give (record {
+    rate = rate;
+    seconds = seconds;
+    segments = segments;
+    channels = channels;
+    status = 0;
+  })
 
 abbrev pub entry : ℕ → Taking Entry
 entry form = do
@@ -241,7 +248,8 @@ full_cause = do
   give (faults.Full need free)
 
 abbrev pub cause_readings : ℕ → List (List ℕ × Taking CommitFault)
-cause_readings form = (codes "edit", edit_cause form) ∷ (codes "worn", worn_cause) ∷ (codes "full", full_cause) ∷ []
+cause_readings form = (codes "edit", edit_cause form) ∷ (codes "worn", worn_cause) ∷
+    (codes "full", full_cause) ∷ []
 
 -- why a batch was refused
 unfoldable pub cause : ℕ → Taking CommitFault
@@ -275,7 +283,8 @@ abbrev pub hand_from : ℕ → List ℕ → Option ℕ
 hand_from least w = only_if (λ hand. nat_le least hand) (number_of 255 w)
 
 abbrev pub hand_causes : List (List ℕ × ℕ)
-hand_causes = (codes "malformed", 1) ∷ (codes "failed", 2) ∷ (codes "limit", 3) ∷ (codes "memory", 4) ∷ []
+hand_causes = (codes "malformed", 1) ∷ (codes "failed", 2) ∷ (codes "limit", 3) ∷
+    (codes "memory", 4) ∷ []
 
 abbrev pub hand : ℕ → Taking HandEnd
 hand least = do
@@ -299,7 +308,8 @@ saved form = do
 -- a status that a ledger of this form may end with
 abbrev pub is_told : ℕ → ℕ → Bool
 is_told form status =
-    (status == 0) || (status == 5) || (status == 8) || (status == 9) || ((status == 10) && not (form == 1))
+    (status == 0) || (status == 5) || (status == 8) || (status == 9)
+    || ((status == 10) && not (form == 1))
 
 abbrev pub status_of : ℕ → List ℕ → Option ℕ
 status_of form w = only_if (is_told form) (number_of 255 w)

@@ -10,8 +10,8 @@ use Rattle.ft_text.specs.declared.record.Run.{Run}
 use Rattle.ft_text.specs.declared.record.HandEnd.{HandEnd}
 use Rattle.ft_text.specs.declared.record.SavedLine.{SavedLine}
 
--- all that a ledger tells: what was asked for and how it ended, what was committed and what refused,
--- the ticks, the hands that ended early, and the song that was saved
+-- all that a ledger tells: what was asked for and how it ended, what was committed and what was
+-- refused, the ticks, the hands that ended early, and the song that was saved
 pub record Account : Type 0 where
   pub run : Run
   pub entries : List Entry
@@ -20,7 +20,8 @@ pub record Account : Type 0 where
   pub hands : List HandEnd
   pub saved : Option SavedLine
 
-abbrev pub account_of : Run → JournalState → List TickReport → List HandEnd → Option SavedLine → Account
+abbrev pub account_of : Run → JournalState → List TickReport → List HandEnd → Option SavedLine
+    → Account
 account_of run journal ticks hands saved = record {
   run = run;
   entries = journal.entries;

@@ -1,9 +1,13 @@
-//! Edits as text, in words.
+//! Edits and ledgers as text, in words.
 //!
 //! Which text an edit and a batch have stands in `specs/`: `Words` has the words of each edit, and
 //! `Texts` puts words together. `print_edit` and `print_batch` write exactly that text. What a line
 //! says, or where its first wrong word stands, is `line_of` of `specs/Lines`: `read_edit` and
 //! `read_batch` answer exactly that, unless memory is wanting.
+//!
+//! What a ledger tells is an `Account` of `specs/Record`, and its text is in `specs/Ledger`.
+//! `print_ledger` writes it. `read_ledger` answers what `specs/LedgerReading` says, or the first line
+//! that can't stand there.
 #![tactic(auto)]
 
 mod arguments;

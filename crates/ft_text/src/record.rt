@@ -66,8 +66,8 @@ pub enum LedgerFault {
     /// They are no ledger.
     #[error("line {line} is no line of a ledger")]
     Line {
-        /// The first line, from 1, up to which no ledger goes like this. Where a line is missing at
-        /// the end it is the one behind the last. The greatest u32 stands for any line from there on.
+        /// The first line that can't stand there, from 1. Where a line is missing at the end it
+        /// is the one behind the last. The greatest u32 stands for any line from there on.
         line: u32,
     },
     /// Memory was wanting. No clause says when.

@@ -9,7 +9,8 @@ unfolding ledger_text ledger_lines
 returns c =
     let run = c.args.run.now in
     parts (head_line 2) (play_line run) (map entry_line c.args.journal.now.entries) (map (refusal_line 2) c.args.journal.now.refusals)
-    (tick_lines 0 c.args.ticks.now) (map hand_line c.args.hands.now) (saved_lines c.args.saved) (end_line run.status (length c.args.ticks.now))
+    (tick_lines 0 c.args.ticks.now) (map hand_line c.args.hands.now) (saved_lines c.args.saved)
+    (end_line run.status (length c.args.ticks.now))
     c.in_ok-text.text.items c.put_play.new.text.items c.put_entries.new.text.items c.put_refusals.new.text.items c.put_ticks.new.text.items
     c.put_hands.new.text.items c.put_if_saved.new.text.items c.put_end.new.text.items
     (c.in_ok-text.ensures.items ∙ first_line) (c.in_ok-put_play.ensures) c.in_ok-put_entries.ensures c.in_ok-put_refusals.ensures
