@@ -9,3 +9,18 @@ pub mod EditsBack
 pub mod LinesBack
 pub mod Names
 pub mod Skipped
+pub mod Joined
+mod LedgerWorked
+pub mod Cuts
+pub mod ManyLines
+pub mod Pushed
+pub mod PlainBytes
+pub mod SplitsBack
+pub mod LedgerLinesBack
+pub mod LedgerPartsBack
+pub mod LedgerLines
+pub mod LedgerWhole
+pub mod BatchesBack
+pub mod WordsExact
+pub mod LinesExact
+pub mod WholeExact

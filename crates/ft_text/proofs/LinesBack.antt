@@ -16,13 +16,13 @@ use Rattle.ft_text.proofs.EditsBack.{is_name, IsWritten, is_written}
 
 -- ---- a name
 
-record BeginsLine (name : List ℕ) : Type 0 where
-  is : IsWord name
-  few : length name < 10
-  no_hash : begins_with_hash name ≡ false
-  no_time : bytes_eq name (codes "at") ≡ false
+pub record BeginsLine (name : List ℕ) : Type 0 where
+  pub is : IsWord name
+  pub few : length name < 10
+  pub no_hash : begins_with_hash name ≡ false
+  pub no_time : bytes_eq name (codes "at") ≡ false
 
-begins_line : (name : List ℕ) → is_name name ≡ true → BeginsLine name
+pub begins_line : (name : List ℕ) → is_name name ≡ true → BeginsLine name
 begins_line name h =
     let time = and_parts _ (not (bytes_eq name (codes "at"))) h in
     let hash = and_parts _ (not (begins_with_hash name)) time.0 in
@@ -37,11 +37,11 @@ begins_line name h =
 
 -- ---- an edit
 
-text_is : (edit : Edit) (w : IsWritten edit) (rest : List ℕ) → edit_text edit ++ rest ≡ w.name ++ (spaced w.args ++ rest)
+pub text_is : (edit : Edit) (w : IsWritten edit) (rest : List ℕ) → edit_text edit ++ rest ≡ w.name ++ (spaced w.args ++ rest)
 unfolding edit_text
 text_is edit w rest = ap (λ words. text_of_words words ++ rest) w.words ∙ append_assoc w.name (spaced w.args) rest
 
-edit_reads : (edit : Edit) (w : IsWritten edit) (at : ℕ) (rest : List ℕ) → ends_word rest ≡ true
+pub edit_reads : (edit : Edit) (w : IsWritten edit) (at : ℕ) (rest : List ℕ) → ends_word rest ≡ true
     → (end : ℕ) × (edit_reading (place at (edit_text edit ++ rest)) ≡ Ok (edit, place end rest))
 unfolding edit_reading
 edit_reads edit w at rest end =
@@ -50,7 +50,7 @@ edit_reads edit w at rest end =
     let q = w.taken.taken.reads ((at + 0) + length w.name) rest end in
     (q.0, ap (λ left. edit_reading (place at left)) (text_is edit w rest) ∙ (ap (follow (λ arguments. arguments)) p ∙ q.1))
 
-edit_behind_space : (at : ℕ) (left : List ℕ) → edit_reading (place at (32 ∷ left)) ≡ edit_reading (place (at + 1) left)
+pub edit_behind_space : (at : ℕ) (left : List ℕ) → edit_reading (place at (32 ∷ left)) ≡ edit_reading (place (at + 1) left)
 unfolding edit_reading
 edit_behind_space at left =
     let rest : Result ((ℕ × List ℕ) × Place) ℕ → Result (Edit × Place) ℕ =
@@ -106,7 +106,7 @@ same_first : (name rest : List ℕ) → 0 < length name → begins_with_hash (na
 same_first [] rest some = absurd (omega arith)
 same_first (b ∷ name) rest some = refl
 
-reads_from_its_front : (name rest : List ℕ) → BeginsLine name → length (name ++ rest) ≤ 4096
+pub reads_from_its_front : (name rest : List ℕ) → BeginsLine name → length (name ++ rest) ≤ 4096
     → beginning (name ++ rest) ≡ Ok (Some (place 0 (name ++ rest)))
 unfolding beginning
 reads_from_its_front name rest begins short =
@@ -118,7 +118,7 @@ reads_from_its_front name rest begins short =
     ∙ cond-false (begins_with_hash line || is_over (place 0 line)) (Ok None) start
     (or_from (begins_with_hash line) (is_over (place 0 line)) hash (not_over 0 name rest begins.is))
 
-has_no_time : (name rest : List ℕ) → BeginsLine name → ends_word rest ≡ true
+pub has_no_time : (name rest : List ℕ) → BeginsLine name → ends_word rest ≡ true
     → time_reading (place 0 (name ++ rest)) ≡ Ok (None, place 0 (name ++ rest))
 unfolding time_reading
 has_no_time name rest begins end =

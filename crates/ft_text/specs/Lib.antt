@@ -7,3 +7,10 @@ pub mod Lines
 pub mod Answers
 pub mod Kinds
 pub mod ReadBack
+pub mod Record
+pub mod Ledger
+pub mod LedgerWords
+pub mod LedgerReading
+pub mod LedgerAnswers
+pub mod LedgerBack
+pub mod LedgerExact

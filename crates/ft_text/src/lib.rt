@@ -1,9 +1,13 @@
-//! Edits as text, in words.
+//! Edits and ledgers as text, in words.
 //!
 //! Which text an edit and a batch have stands in `specs/`: `Words` has the words of each edit, and
 //! `Texts` puts words together. `print_edit` and `print_batch` write exactly that text. What a line
 //! says, or where its first wrong word stands, is `line_of` of `specs/Lines`: `read_edit` and
 //! `read_batch` answer exactly that, unless memory is wanting.
+//!
+//! What a ledger tells is an `Account` of `specs/Record`, and its text is in `specs/Ledger`.
+//! `print_ledger` writes it. `read_ledger` answers what `specs/LedgerReading` says, or the first line
+//! that can't stand there.
 #![tactic(auto)]
 
 mod arguments;
@@ -13,10 +17,20 @@ mod fault;
 mod instruments;
 mod kind;
 mod laws;
+mod ledger;
+mod ledger_batches;
+mod ledger_laws;
+mod ledger_lines;
+mod ledger_numbers;
+mod ledger_places;
+mod ledger_read;
+mod ledger_takes;
+mod ledger_words;
 mod numbers;
 mod patterns;
 mod print;
 mod read;
+mod record;
 mod samples;
 mod song;
 mod timed;
@@ -24,6 +38,10 @@ mod words;
 
 pub use fault::LineFault;
 pub use laws::{printed_batches_are_read, printed_edits_are_read, texts_differ};
+pub use ledger::print_ledger;
+pub use ledger_laws::{ledgers_are_read_back, what_is_read_is_written};
+pub use ledger_read::read_ledger;
 pub use print::{print_batch, print_edit};
 pub use read::{read_batch, read_edit};
+pub use record::{HandEnd, HandEnds, LedgerFault, Record, Run, SavedLine};
 pub use timed::{Timed, TimedBatch};

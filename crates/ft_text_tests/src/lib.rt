@@ -1,7 +1,10 @@
-//! Texts: what lines of scripts say, and where their first wrong words stand.
+//! Texts: what lines of scripts say, and where their first wrong words stand; ledgers, read and
+//! printed.
 #![tactic(auto)]
 
 #[cfg(test)]
 mod kinds;
+#[cfg(test)]
+mod ledgers;
 #[cfg(test)]
 mod scripts;

@@ -7,7 +7,8 @@
 //! valid module takes. Neither takes memory.
 //!
 //! An `Edit` is a change of a module that is asked for, a `Batch` some edits that are
-//! committed together, and a `Journal` what was committed and what was refused.
+//! committed together, and a `Journal` what was committed and what was refused. A
+//! `TickReport` names the version behind a tick that was played.
 #![tactic(auto)]
 
 mod batch;
@@ -28,6 +29,7 @@ mod sample;
 mod shelf;
 mod slots;
 mod steps;
+mod tick_report;
 mod validity;
 mod view;
 mod voice;
@@ -47,6 +49,7 @@ pub use no_memory::NoMemory;
 pub use pattern::{Cell, Cells, Pattern, Patterns};
 pub use sample::{Frames, Sample, Samples};
 pub use steps::Steps;
+pub use tick_report::{TickReport, Ticks};
 pub use validity::valid;
 pub use view::SongView;
 pub use voice::{SampleHead, Voice};

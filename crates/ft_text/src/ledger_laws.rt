@@ -1,0 +1,17 @@
+//! Laws of the definitions of ledgers. These functions do nothing; their contracts say what holds.
+
+ghost use Rattle.ft_text.specs.LedgerBack.{LedgersAreReadBack, OldLedgersAreReadBack, LedgersDiffer};
+ghost use Rattle.ft_text.specs.LedgerExact.{ReadIsWritten};
+
+/// The ledger of what can be told tells it, in form 2 and, where it can, in form 1. So different
+/// accounts have different ledgers.
+pub fn ledgers_are_read_back()
+    ensures back { LedgersAreReadBack }
+    ensures old { OldLedgersAreReadBack }
+    ensures differ { LedgersDiffer }
+{}
+
+/// What is read as a ledger is the ledger of what was read, of form 1 or 2.
+pub fn what_is_read_is_written()
+    ensures { ReadIsWritten }
+{}
