@@ -1,0 +1,4 @@
+pub mod Lists
+pub mod Packed
+pub mod Walked
+pub mod Found
