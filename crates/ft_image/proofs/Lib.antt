@@ -2,3 +2,5 @@ pub mod Lists
 pub mod Packed
 pub mod Walked
 pub mod Found
+pub mod Instruments
+pub mod Samples

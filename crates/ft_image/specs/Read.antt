@@ -2,10 +2,11 @@
 use Rattle.std.specs.Prelude.{◌≡◌, ℕ, zero, suc, ◌≤◌, List, slice_get, Option, None, Some}
 use Rattle.ft_types.specs.declared.module.Module.{Module}
 use Rattle.ft_types.specs.declared.pattern.Pattern.{Pattern}
+use Rattle.ft_types.specs.declared.instrument.Instrument.{Instrument}
 use Rattle.ft_types.specs.declared.sample.Sample.{Sample}
 use Rattle.ft_types.specs.Views.{instrument_at, number_in, sample_in}
-use Rattle.ft_segments.specs.Walk.{InstrumentIds, SampleIds, SongIds, Placed, IsOf, ids_of, pattern_walk, sample_uses, sample_walk}
-use Rattle.ft_image.specs.Shown.{ShowsPattern}
+use Rattle.ft_segments.specs.Walk.{InstrumentIds, SampleIds, SongIds, Placed, IsOf, ids_of, pattern_walk, instrument_walk, sample_uses, sample_walk}
+use Rattle.ft_image.specs.Shown.{ShowsPattern, ShowsInstrument}
 
 -- ---- what a view may show
 
@@ -31,12 +32,19 @@ pub record HasPattern (placed : Placed) (song : Module) (number root : ℕ) : Ty
   pub shown : ShowsPattern placed.pool song.channels pattern
       (pattern_walk placed.pool song.channels root)
 
--- ---- roots of samples
+-- ---- instruments and samples
 
 -- the segments of the instrument of a number; they count from 1
 abbrev pub instrument_ids_at : SongIds → ℕ → Option InstrumentIds
 instrument_ids_at ids zero = None
 instrument_ids_at ids (suc number) = slice_get ids.instruments number
+
+-- a version has an instrument of a number, with this root
+pub record HasInstrument (placed : Placed) (song : Module) (number root : ℕ) : Type 0 where
+  pub instrument : Instrument
+  pub stored : instrument_at song number ≡ Some instrument
+  pub named : instrument_ids_at (ids_of placed) number ≡ Some (instrument_walk placed.pool root)
+  pub shown : ShowsInstrument placed.pool instrument (instrument_walk placed.pool root)
 
 abbrev pub sample_ids_in : Option InstrumentIds → ℕ → Option SampleIds
 sample_ids_in None number = None

@@ -3,12 +3,16 @@
 
 mod digits;
 mod ids;
+mod instrument_reading;
 mod pattern_reading;
+mod sample_reading;
 mod slice;
 mod song_reading;
 mod view;
 
+pub use instrument_reading::{envelope, sample_root, shape};
 pub use pattern_reading::{cell, rows};
+pub use sample_reading::{frame, sample_head};
 pub use slice::SliceWords;
 pub use song_reading::{head, order};
 pub use view::WordView;

@@ -27,7 +27,7 @@ pub fn pattern_root<V: WordView>(view: &mut V, root: u16, pattern: u8) -> Option
     if u64::from(pattern) >= view.word(root, 1) % 65536 {
         return None;
     }
-    Some(id(view, root, 40, pattern))
+    Some(id(view, root, 40, u16::from(pattern)))
 }
 
 /// The rows of the pattern of a number, in the song of a root; 64 where it isn't stored.
@@ -79,6 +79,6 @@ pub fn cell<V: WordView>(view: &mut V, root: u16, pattern: u8, row: u16, channel
     if number >= 8192 {
         return Cell::EMPTY;
     }
-    let body = id(view, found, 1, (number / 256) as u8);
+    let body = id(view, found, 1, (number / 256) as u16);
     cell_from(view.word(body, (number % 256) as u8))
 }
