@@ -4,3 +4,5 @@ pub mod Walked
 pub mod Found
 pub mod Instruments
 pub mod Samples
+pub mod Sums
+pub mod Walks

@@ -4,6 +4,7 @@
 mod digits;
 mod ids;
 mod instrument_reading;
+mod laws;
 mod pattern_reading;
 mod sample_reading;
 mod slice;
@@ -11,6 +12,7 @@ mod song_reading;
 mod view;
 
 pub use instrument_reading::{envelope, sample_root, shape};
+pub use laws::walk_is_there;
 pub use pattern_reading::{cell, rows};
 pub use sample_reading::{frame, sample_head};
 pub use slice::SliceWords;
