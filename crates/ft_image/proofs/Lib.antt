@@ -6,3 +6,5 @@ pub mod Instruments
 pub mod Samples
 pub mod Sums
 pub mod Walks
+pub mod Laying
+pub mod Stays

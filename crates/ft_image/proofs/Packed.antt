@@ -44,3 +44,11 @@ first-read bytes word i are is lt =
     ap (λ (w : ℕ). digit 256 w i) is
     ∙ digit-packed 256 8 (λ j. get_or bytes (0 * 8 + j) 0) i (λ j. low bytes (0 * 8 + j) are) lt
     ∙ ap (λ (n : ℕ). get_or bytes n 0) (omega arith)
+
+pub packed-same : (base n : ℕ) (f g : ℕ → ℕ) → ((k : ℕ) → k < n → f k ≡ g k) → packed base n f ≡ packed base n g
+packed-same base zero f g same = refl
+packed-same base (suc n) f g same =
+    let a : f 0 ≡ g 0 = same 0 (omega arith) in
+    let b : packed base n (λ k. f (suc k)) ≡ packed base n (λ k. g (suc k))
+    = packed-same base n (λ k. f (suc k)) (λ k. g (suc k)) (λ k lt. same (suc k) (omega arith)) in
+    rw (a, b) refl

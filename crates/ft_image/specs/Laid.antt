@@ -1,13 +1,14 @@
 -- Where the segments of a song are laid: one after the other, from segment 0 on.
-use Rattle.std.specs.Prelude.{◌≡◌, ℕ, ◌+◌, ◌*◌, ◌<◌, ◌≤◌, List, [], ◌∷◌, length, sum_by}
+use Rattle.std.specs.Prelude.{◌≡◌, ℕ, ◌+◌, ◌-◌, ◌*◌, ◌<◌, ◌≤◌, ◌==◌, nat_lt, if◌then◌else◌, List, [], ◌∷◌, length, sum_by}
 use Rattle.std.specs.List.{range_with_len}
 use Rattle.ft_types.specs.declared.module.Module.{Module}
 use Rattle.ft_types.specs.declared.pattern.Pattern.{Pattern}
 use Rattle.ft_types.specs.declared.instrument.Instrument.{Instrument}
 use Rattle.ft_types.specs.declared.sample.Sample.{Sample}
 use Rattle.ft_types.specs.Blocks.{pieces_of, pattern_blocks, bodies_of, indexes_of, sample_blocks, instrument_blocks}
-use Rattle.ft_segments.specs.Packing.{word_at}
+use Rattle.ft_segments.specs.Packing.{bytes_word, ids_word, word_at}
 use Rattle.ft_segments.specs.Walk.{PatternIds, IndexIds, SampleIds, InstrumentIds, SongIds, each_below, bodies_of_index}
+use Rattle.ft_image.specs.Values.{head_word, counts_word, count_bytes, envelope_bytes, points_word, lengths_word, loop_word, tuning_word}
 
 -- the ids of parts that are laid one after the other, each from the segment behind the one before
 abbrev pub laid : {X Y : Type 0} → (X → ℕ) → (ℕ → X → Y) → ℕ → List X → List Y
@@ -60,3 +61,39 @@ abbrev pub Keeps : ℕ → ℕ → List ℕ → List ℕ → Type 0
 Keeps low high old new =
     (segment place : ℕ) → low ≤ segment → segment < high → place < 256
     → word_at new segment place ≡ word_at old segment place
+
+-- ---- what is written into roots, by the place of the word
+
+abbrev pub pattern_root_word : Pattern → List ℕ → ℕ → ℕ
+pattern_root_word pattern bodies place =
+    if place == 0 then pattern.rows
+    else (if nat_lt place 9 then ids_word bodies (place - 1) else 0)
+
+abbrev pub sample_root_word : Sample → List ℕ → ℕ → ℕ
+sample_root_word sample indexes place =
+    if place == 0 then lengths_word sample
+    else (if place == 1 then loop_word sample
+    else (if place == 2 then tuning_word sample
+    else (if nat_lt place 6 then bytes_word sample.name (place - 3)
+    else (if place == 16 then ids_word indexes 0 else 0))))
+
+abbrev pub instrument_root_word : Instrument → List ℕ → ℕ → ℕ
+instrument_root_word instrument samples place =
+    if place == 0 then bytes_word (count_bytes instrument) 0
+    else (if place == 1 then bytes_word (envelope_bytes instrument) 0
+    else (if place == 2 then instrument.fadeout
+    else (if nat_lt place 6 then bytes_word instrument.name (place - 3)
+    else (if nat_lt place 18 then bytes_word instrument.map (place - 6)
+    else (if nat_lt place 24 then points_word instrument.volume.points (place - 18)
+    else (if nat_lt place 30 then points_word instrument.panning.points (place - 24)
+    else (if nat_lt place 34 then ids_word samples (place - 30) else 0)))))))
+
+abbrev pub song_root_word : Module → List ℕ → List ℕ → ℕ → ℕ
+song_root_word song patterns instruments place =
+    if place == 0 then head_word song
+    else (if place == 1 then counts_word song
+    else (if nat_lt place 5 then bytes_word song.name (place - 2)
+    else (if nat_lt place 8 then bytes_word song.tracker (place - 5)
+    else (if nat_lt place 40 then bytes_word song.orders (place - 8)
+    else (if nat_lt place 104 then ids_word patterns (place - 40)
+    else (if nat_lt place 136 then ids_word instruments (place - 104) else 0))))))

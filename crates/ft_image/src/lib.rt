@@ -2,13 +2,16 @@
 #![tactic(auto)]
 
 mod digits;
+mod filling;
 mod ids;
 mod instrument_reading;
 mod laws;
+mod pattern_placing;
 mod pattern_reading;
 mod sample_reading;
 mod slice;
 mod song_reading;
+mod values;
 mod view;
 
 pub use instrument_reading::{envelope, sample_root, shape};
