@@ -8,3 +8,5 @@ pub mod Sums
 pub mod Walks
 pub mod Laying
 pub mod Stays
+pub mod Roots
+pub mod Whole

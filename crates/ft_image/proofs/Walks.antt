@@ -38,7 +38,7 @@ small_roots root [] low k = omega arith
 small_roots root (x ∷ parts) low zero = low 0 x refl
 small_roots root (x ∷ parts) low (suc k) = small_roots root parts (λ j y is. low (suc j) y is) k
 
-root_at : {X : Type 0} → (root : X → ℕ) (parts : List X) (k : ℕ) (x : X) → slice_get parts k ≡ Some x
+pub root_at : {X : Type 0} → (root : X → ℕ) (parts : List X) (k : ℕ) (x : X) → slice_get parts k ≡ Some x
     → get_or (map root parts) k 0 ≡ root x
 root_at root [] k x is = absurd (none-some x is)
 root_at root (y ∷ parts) zero x is = ap root (same_Some y x is)

@@ -4,16 +4,21 @@
 mod digits;
 mod filling;
 mod ids;
+mod image;
+mod instrument_placing;
 mod instrument_reading;
 mod laws;
 mod pattern_placing;
 mod pattern_reading;
+mod sample_placing;
 mod sample_reading;
 mod slice;
+mod song_placing;
 mod song_reading;
 mod values;
 mod view;
 
+pub use image::{Image, place};
 pub use instrument_reading::{envelope, sample_root, shape};
 pub use laws::walk_is_there;
 pub use pattern_reading::{cell, rows};
