@@ -1,26 +1,25 @@
 -- What readers find in the words of a version that shows a song.
-use Rattle.std.proofs.Common.{◌≡◌, ◌≢◌, ℕ, zero, suc, ◌+◌, ◌*◌, ◌/◌, ◌%◌, ◌<◌, ◌≤◌, Bool, true, false, cond, eqb, ltb, lt-ltb, le-ltb, List, Option, Some, None, get_or, length, refl, sym, ap, subst, ◌∙◌, arith, inl, inr}
-use Rattle.std.specs.Prelude.{slice_index, unwrap_or}
+use Rattle.std.proofs.Common.{◌≡◌, ℕ, ◌+◌, ◌*◌, ◌/◌, ◌%◌, ◌<◌, ◌≤◌, Bool, true, false, eqb, lt-ltb, le-ltb, Option, Some, get_or, length, refl, sym, ap, subst, ◌∙◌, arith}
+use Rattle.std.specs.Prelude.{slice_index}
 use Rattle.std.specs.List.{slice_get}
 use Rattle.std.proofs.lemmas.Nat.{mul-le, mul-add-lt}
 use Rattle.std.proofs.Math.Nat.{mul_comm}
 use Rattle.std.proofs.lemmas.Option.{slice_get_within, get_or_from_slice_get, slice_get_past, unwrap_or-slice_get}
 use Rattle.std.proofs.lemmas.List.FromFn.{length-map-range_with_len}
 use Rattle.ft_types.specs.declared.module.Module.{Module}
-use Rattle.ft_types.specs.declared.module.SongHead.{SongHead}
 use Rattle.ft_types.specs.declared.pattern.Pattern.{Pattern}
 use Rattle.ft_types.specs.declared.pattern.Cell.{Cell}
 use Rattle.ft_types.specs.Valid.{IsValid, IsValidCell, IsValidPattern}
 use Rattle.ft_types.specs.Blocks.{pieces_of}
 use Rattle.ft_types.specs.Views.{song_head_of, order_at, rows_in, rows_at, cell_in, cell_at, empty_cell}
-use Rattle.ft_segments.specs.Packing.{digit, bytes_word, word_at, id_at}
-use Rattle.ft_segments.specs.Walk.{PatternIds, Placed, IsOf, ids_of, channels_in, patterns_in, pattern_walk}
+use Rattle.ft_segments.specs.Packing.{digit, word_at, id_at}
+use Rattle.ft_segments.specs.Walk.{Placed, IsOf, ids_of, channels_in, patterns_in, pattern_walk}
 use Rattle.ft_image.specs.Values.{bit, head_word, counts_word, cell_word}
-use Rattle.ft_image.specs.Shown.{Shows, ShowsPattern}
+use Rattle.ft_image.specs.Shown.{Shows}
 use Rattle.ft_image.specs.Read.{HasPattern}
 use Rattle.ft_image.proofs.Lists.{stored, below_at}
 use Rattle.ft_image.proofs.Packed.{byte-read}
-use Rattle.ft_image.proofs.Walked.{at_root, root_walk, root_is, pattern_at_walk, of_pattern, pattern_root_of, pattern_body_of}
+use Rattle.ft_image.proofs.Walked.{at_root, pattern_at_walk, of_pattern, pattern_root_of, pattern_body_of}
 
 -- ---- the song root
 

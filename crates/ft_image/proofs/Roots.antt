@@ -1,19 +1,18 @@
 -- What roots that were filled show.
-use Rattle.std.proofs.Common.{◌≡◌, ◌≢◌, ℕ, zero, suc, ◌+◌, ◌-◌, ◌*◌, ◌<◌, ◌≤◌, List, Option, Some, map, get_or, length, refl, sym, ap, subst, ◌∙◌, arith, ne_eqb, lt-ltb, le-ltb}
-use Rattle.std.specs.List.{slice_get, range_with_len, sum_by}
+use Rattle.std.proofs.Common.{◌≡◌, ◌≢◌, ℕ, ◌+◌, ◌-◌, ◌*◌, ◌<◌, ◌≤◌, List, map, refl, sym, ap, subst, ◌∙◌, arith, ne_eqb, lt-ltb, le-ltb}
+use Rattle.std.specs.List.{range_with_len}
 use Rattle.std.proofs.lemmas.List.{ext_get_or, length-map}
 use Rattle.std.proofs.lemmas.List.FromFn.{get_or-range_with_len, length-range_with_len, length-map-range_with_len}
 use Rattle.std.proofs.lemmas.Option.{slice_get_within}
 use Rattle.ft_types.specs.declared.module.Module.{Module}
-use Rattle.ft_types.specs.declared.pattern.Pattern.{Pattern}
 use Rattle.ft_types.specs.declared.instrument.Instrument.{Instrument}
 use Rattle.ft_types.specs.declared.sample.Sample.{Sample}
-use Rattle.ft_types.specs.Blocks.{pieces_of, pattern_blocks, bodies_of, indexes_of, sample_blocks, instrument_blocks}
+use Rattle.ft_types.specs.Blocks.{bodies_of, indexes_of, sample_blocks}
 use Rattle.ft_segments.specs.Packing.{bytes_word, ids_word, word_at}
-use Rattle.ft_segments.specs.Walk.{PatternIds, IndexIds, SampleIds, InstrumentIds, SongIds, each_below, bodies_of_index}
+use Rattle.ft_segments.specs.Walk.{PatternIds, IndexIds, SampleIds, InstrumentIds, each_below, bodies_of_index}
 use Rattle.ft_image.specs.Values.{points_word, frames_word}
-use Rattle.ft_image.specs.Shown.{Pairwise, ShowsPattern, ShowsIndex, ShowsSample, ShowsInstrument, ShowsSong}
-use Rattle.ft_image.specs.Laid.{laid, pattern_laid, index_laid, sample_laid, instrument_laid, song_laid, sample_root_word, instrument_root_word, song_root_word}
+use Rattle.ft_image.specs.Shown.{Pairwise, ShowsIndex, ShowsSample, ShowsInstrument, ShowsSong}
+use Rattle.ft_image.specs.Laid.{laid, index_laid, sample_laid, instrument_laid, song_laid, sample_root_word, instrument_root_word, song_root_word}
 use Rattle.ft_image.proofs.Lists.{below_at}
 use Rattle.ft_image.proofs.Walks.{root_at}
 use Rattle.ft_image.proofs.Stays.{body_at, index_is}

@@ -1,7 +1,7 @@
 -- What readers find in the words of a sample.
-use Rattle.std.proofs.Common.{◌≡◌, ◌≢◌, ℕ, zero, suc, ◌+◌, ◌-◌, ◌*◌, ◌/◌, ◌%◌, ◌<◌, ◌≤◌, ℤ, pos, Bool, true, false, eqb, List, Option, Some, None, get_or, length, refl, sym, ap, subst, ◌∙◌, arith, inl, inr}
+use Rattle.std.proofs.Common.{◌≡◌, ℕ, zero, suc, ◌+◌, ◌-◌, ◌*◌, ◌/◌, ◌%◌, ◌<◌, ◌≤◌, ℤ, pos, Bool, true, false, eqb, Option, Some, None, get_or, length, refl, sym, ap, subst, ◌∙◌, arith, inl, inr}
 use Rattle.std.specs.Prelude.{FitsSigned, slice_index}
-use Rattle.std.specs.List.{slice_get, All}
+use Rattle.std.specs.List.{slice_get}
 use Rattle.std.specs.Int.{Width, w8, w16, cast_unsigned, cast_signed}
 use Rattle.std.proofs.lemmas.Int.{ints, to_z-of_z}
 use Rattle.std.proofs.Math.Facts.{Fits-of_z}
@@ -18,7 +18,7 @@ use Rattle.ft_types.specs.Views.{sample_in, head_of}
 use Rattle.ft_segments.specs.Packing.{digit, word_at, id_at}
 use Rattle.ft_segments.specs.Walk.{InstrumentIds, Placed, IsOf, sample_uses, sample_walk, instrument_walk, index_walk, bodies_in, bodies_of_index, samples_in}
 use Rattle.ft_image.specs.Values.{lengths_word, loop_word, tuning_word, frames_word}
-use Rattle.ft_image.specs.Shown.{Shows, ShowsSample, ShowsIndex}
+use Rattle.ft_image.specs.Shown.{Shows, ShowsSample}
 use Rattle.ft_image.specs.Read.{IsRootOf, sample_root_at, sample_at, sample_ids_in, root_in}
 use Rattle.ft_image.proofs.Lists.{below_at}
 use Rattle.ft_image.proofs.Packed.{digit-packed}

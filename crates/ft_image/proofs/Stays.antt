@@ -1,7 +1,7 @@
 -- What is shown stays where the words of its segments stay.
-use Rattle.std.proofs.Common.{◌≡◌, ◌≢◌, ℕ, zero, suc, ◌+◌, ◌-◌, ◌*◌, ◌<◌, ◌≤◌, min, List, Option, Some, None, get_or, length, refl, sym, ap, subst, ◌∙◌, arith}
+use Rattle.std.proofs.Common.{◌≡◌, ℕ, ◌+◌, ◌*◌, ◌<◌, ◌≤◌, List, Some, sym, ap, subst, ◌∙◌, arith}
 use Rattle.std.specs.Prelude.{slice_index}
-use Rattle.std.specs.List.{slice_get, range_with_len, sum_by}
+use Rattle.std.specs.List.{slice_get, range_with_len}
 use Rattle.std.proofs.lemmas.List.FromFn.{get_or-range_with_len, length-range_with_len, length-map-range_with_len}
 use Rattle.std.proofs.lemmas.Option.{slice_get_within, same_Some}
 use Rattle.ft_types.specs.declared.pattern.Pattern.{Pattern}
@@ -10,8 +10,8 @@ use Rattle.ft_types.specs.declared.sample.Sample.{Sample}
 use Rattle.ft_types.specs.Blocks.{pieces_of, pattern_blocks, bodies_of, indexes_of, sample_blocks, instrument_blocks}
 use Rattle.ft_segments.specs.Packing.{word_at}
 use Rattle.ft_segments.specs.Walk.{IndexIds, bodies_of_index}
-use Rattle.ft_image.specs.Shown.{Pairwise, ShowsPattern, ShowsIndex, ShowsSample, ShowsInstrument}
-use Rattle.ft_image.specs.Laid.{Keeps, laid, pattern_laid, index_laid, sample_laid, instrument_laid}
+use Rattle.ft_image.specs.Shown.{ShowsPattern, ShowsIndex, ShowsSample, ShowsInstrument}
+use Rattle.ft_image.specs.Laid.{Keeps, pattern_laid, index_laid, sample_laid, instrument_laid}
 use Rattle.ft_image.proofs.Lists.{below_at}
 use Rattle.ft_image.proofs.Laying.{laid_stays}
 

@@ -1,5 +1,5 @@
 -- How often the ids of a laid song name a segment: each below its end, once.
-use Rattle.std.proofs.Common.{◌≡◌, ◌≢◌, ℕ, zero, suc, ◌+◌, ◌-◌, ◌*◌, ◌<◌, ◌≤◌, min, Bool, true, false, cond, ltb, lt-ltb, le-ltb, eq-eqb, ne_eqb, List, [], ◌∷◌, length, refl, sym, ap, subst, ◌∙◌, arith, inl, inr}
+use Rattle.std.proofs.Common.{◌≡◌, ◌≢◌, ℕ, zero, suc, ◌+◌, ◌*◌, ◌<◌, ◌≤◌, min, cond, ltb, lt-ltb, le-ltb, eq-eqb, ne_eqb, List, [], ◌∷◌, refl, ap, ◌∙◌, arith, inl, inr}
 use Rattle.std.specs.List.{range_with_len, sum_by}
 use Rattle.std.proofs.lemmas.Bool.{cases_lt}
 use Rattle.std.proofs.lemmas.List.Sums.{sum_by-cons}
@@ -9,7 +9,7 @@ use Rattle.ft_types.specs.declared.pattern.Pattern.{Pattern}
 use Rattle.ft_types.specs.declared.instrument.Instrument.{Instrument}
 use Rattle.ft_types.specs.declared.sample.Sample.{Sample}
 use Rattle.ft_types.specs.Blocks.{pieces_of, pattern_blocks, bodies_of, indexes_of, sample_blocks, instrument_blocks, blocks_of}
-use Rattle.ft_segments.specs.Walk.{IndexIds, is_it, pattern_uses, index_uses, sample_uses, instrument_uses, uses, IsSound, each_below, bodies_of_index}
+use Rattle.ft_segments.specs.Walk.{is_it, pattern_uses, index_uses, sample_uses, instrument_uses, uses, IsSound, each_below, bodies_of_index}
 use Rattle.ft_image.specs.Laid.{laid, pattern_laid, index_laid, sample_laid, instrument_laid, song_laid, behind_patterns}
 
 -- 1 for a segment below another

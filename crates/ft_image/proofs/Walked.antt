@@ -1,9 +1,9 @@
 -- The segments that a walk names.
-use Rattle.std.proofs.Common.{◌≡◌, ℕ, zero, suc, ◌+◌, ◌*◌, ◌<◌, ◌≤◌, List, Option, Some, None, length, refl, sym, ap, subst, ◌∙◌, arith, eq-eqb}
-use Rattle.std.specs.List.{slice_get, sum_by}
+use Rattle.std.proofs.Common.{◌≡◌, ℕ, ◌<◌, ◌≤◌, List, Some, refl, sym, ap, subst, ◌∙◌, arith, eq-eqb}
+use Rattle.std.specs.List.{slice_get}
 use Rattle.ft_types.specs.Blocks.{pieces_of}
 use Rattle.ft_segments.specs.Packing.{word_at, id_at}
-use Rattle.ft_segments.specs.Walk.{PatternIds, IndexIds, SampleIds, InstrumentIds, SongIds, Placed, IsOf, ids_of, walk, is_it, pattern_uses, index_uses, sample_uses, instrument_uses, uses, pattern_walk, index_walk, sample_walk, instrument_walk, channels_in, patterns_in, instruments_in, samples_in, bodies_in, bodies_of_index}
+use Rattle.ft_segments.specs.Walk.{PatternIds, IndexIds, SampleIds, InstrumentIds, Placed, IsOf, ids_of, walk, is_it, pattern_uses, index_uses, sample_uses, instrument_uses, pattern_walk, index_walk, sample_walk, instrument_walk, channels_in, patterns_in, instruments_in, samples_in, bodies_in, bodies_of_index}
 use Rattle.ft_image.proofs.Lists.{part_of_sum, below_at}
 
 pub itself : (s : ℕ) → is_it s s ≡ 1

@@ -1,9 +1,7 @@
 -- The walk over words that stand for a song finds the ids by which they stand.
-use Rattle.std.proofs.Common.{◌≡◌, ◌≢◌, ℕ, zero, suc, ◌+◌, ◌*◌, ◌/◌, ◌%◌, ◌<◌, ◌≤◌, List, [], ◌∷◌, Option, Some, None, map, get_or, length, refl, sym, ap, subst, ◌∙◌, arith, inl, inr}
-use Rattle.std.specs.List.{slice_get, range_with_len}
+use Rattle.std.proofs.Common.{◌≡◌, ℕ, zero, suc, ◌+◌, ◌*◌, ◌/◌, ◌%◌, ◌<◌, ◌≤◌, List, [], ◌∷◌, Some, map, get_or, length, refl, sym, ap, subst, ◌∙◌, arith}
+use Rattle.std.specs.List.{slice_get}
 use Rattle.std.proofs.lemmas.Nat.{mul-le}
-use Rattle.std.proofs.lemmas.Bool.{cases_lt}
-use Rattle.std.proofs.lemmas.List.{get_or_past}
 use Rattle.std.proofs.lemmas.List.FromFn.{fill_by_all}
 use Rattle.std.proofs.lemmas.Option.{slice_get_within, get_or_from_slice_get, slice_get-get_or, none-some, same_Some}
 use Rattle.ft_types.specs.declared.module.Module.{Module}
@@ -11,13 +9,13 @@ use Rattle.ft_types.specs.declared.pattern.Pattern.{Pattern}
 use Rattle.ft_types.specs.declared.instrument.Instrument.{Instrument}
 use Rattle.ft_types.specs.declared.sample.Sample.{Sample}
 use Rattle.ft_types.specs.Valid.{IsValid, IsValidPattern, IsValidInstrument, IsValidSample}
-use Rattle.ft_types.specs.Blocks.{pieces_of, bodies_of, indexes_of}
+use Rattle.ft_types.specs.Blocks.{pieces_of, bodies_of}
 use Rattle.ft_segments.specs.Packing.{digit, ids_word, word_at, id_at}
-use Rattle.ft_segments.specs.Walk.{PatternIds, IndexIds, SampleIds, InstrumentIds, SongIds, Placed, IsSound, each_below, is_it, uses, pattern_uses, index_uses, sample_uses, instrument_uses, walk, pattern_walk, index_walk, sample_walk, instrument_walk, channels_in, patterns_in, instruments_in, rows_in, samples_in, frames_in, bodies_in, bodies_of_index}
+use Rattle.ft_segments.specs.Walk.{PatternIds, IndexIds, SampleIds, InstrumentIds, SongIds, IsSound, each_below, pattern_uses, index_uses, sample_uses, instrument_uses, walk, pattern_walk, index_walk, sample_walk, instrument_walk, channels_in, patterns_in, instruments_in, rows_in, samples_in, bodies_in, bodies_of_index}
 use Rattle.ft_image.specs.Shown.{Stands, ShowsPattern, ShowsIndex, ShowsSample, ShowsInstrument}
 use Rattle.ft_image.proofs.Lists.{stored, part_of_sum}
 use Rattle.ft_image.proofs.Packed.{digit-packed}
-use Rattle.ft_image.proofs.Walked.{itself, pattern_root_of, pattern_body_of, of_sample, instrument_root_of, sample_root_of, of_index, index_root_of, index_body_of}
+use Rattle.ft_image.proofs.Walked.{pattern_root_of, pattern_body_of, of_sample, instrument_root_of, sample_root_of, of_index, index_root_of, index_body_of}
 use Rattle.ft_image.proofs.Found.{head_back, counts_back}
 use Rattle.ft_image.proofs.Instruments.{count_read}
 use Rattle.ft_image.proofs.Samples.{lengths_back}

@@ -1,10 +1,10 @@
 -- Words in which a song was laid show it.
-use Rattle.std.proofs.Common.{◌≡◌, ℕ, ◌+◌, ◌*◌, ◌/◌, ◌≤◌, List, ◌++◌, length, take, refl, sym, ap, subst, ◌∙◌, arith}
+use Rattle.std.proofs.Common.{◌≡◌, ℕ, ◌*◌, ◌/◌, ◌≤◌, List, ◌++◌, length, take, sym, ap, subst, ◌∙◌, arith}
 use Rattle.std.proofs.Math.Seq.{take-append_seam}
 use Rattle.ft_types.specs.declared.module.Module.{Module}
 use Rattle.ft_types.specs.Valid.{IsValid}
 use Rattle.ft_types.specs.Blocks.{blocks_of}
-use Rattle.ft_segments.specs.Walk.{SongIds, Placed, IsSound, walk}
+use Rattle.ft_segments.specs.Walk.{SongIds, IsSound, walk}
 use Rattle.ft_image.specs.Shown.{Shows, Stands}
 use Rattle.ft_image.specs.Laid.{song_laid}
 use Rattle.ft_image.proofs.Sums.{laid_sound}

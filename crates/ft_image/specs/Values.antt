@@ -6,7 +6,7 @@ use Rattle.ft_types.specs.declared.pattern.Cell.{Cell}
 use Rattle.ft_types.specs.declared.instrument.Instrument.{Instrument}
 use Rattle.ft_types.specs.declared.instrument.Point.{Point}
 use Rattle.ft_types.specs.declared.sample.Sample.{Sample}
-use Rattle.ft_segments.specs.Packing.{packed, bytes_word}
+use Rattle.ft_segments.specs.Packing.{packed}
 
 -- a flag takes one bit
 abbrev pub bit : Bool → ℕ

@@ -1,5 +1,4 @@
-use Rattle.std.proofs.Common.{◌≡◌, ◌+◌, ◌*◌, ◌<◌, ◌≤◌, ℕ, List, length, ap, refl, sym, subst, ◌∙◌, arith}
-use Rattle.std.specs.Prelude.{sum_by}
+use Rattle.std.proofs.Common.{◌<◌, ℕ, length, sym, subst, ◌∙◌, arith}
 use Rattle.ft_types.specs.Blocks.{instrument_blocks}
 use Rattle.ft_segments.specs.Walk.{InstrumentIds}
 use Rattle.ft_image.specs.Laid.{instrument_laid}

@@ -1,5 +1,4 @@
 use Rattle.std.proofs.Common.{◌≡◌, ◌∙◌, ◌+◌, ◌*◌, ◌<◌, ◌≤◌, ℕ, zero, suc, Option, Some, arith, ap, sym}
-use Rattle.std.specs.Prelude.{◌==◌, if◌then◌else◌, slice_index}
 use Rattle.ft_types.specs.declared.instrument.Instrument.{Instrument}
 use Rattle.ft_types.specs.declared.instrument.Envelope.{Envelope}
 use Rattle.ft_types.specs.Views.{envelope_in}

@@ -1,4 +1,4 @@
-use Rattle.std.proofs.Common.{◌∙◌, refl}
+use Rattle.std.proofs.Common.{refl}
 use Rattle.ft_image.proofs.Instruments.{envelope_read}
 use Rattle.ft_image.proofs.instrument_reading.envelope_from.Goals as goal
 

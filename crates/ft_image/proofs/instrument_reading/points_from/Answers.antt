@@ -1,4 +1,4 @@
-use Rattle.std.proofs.Common.{◌≡◌, ◌<◌, ◌/◌, ◌∙◌, get_or, length, sym, arith}
+use Rattle.std.proofs.Common.{◌<◌, ◌/◌, ◌∙◌, get_or, arith}
 use Rattle.std.proofs.lemmas.List.{ext_get_or}
 use Rattle.ft_image.specs.Values.{no_point}
 use Rattle.ft_image.proofs.Instruments.{point_back}

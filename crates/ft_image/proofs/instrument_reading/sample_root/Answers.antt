@@ -1,9 +1,7 @@
-use Rattle.std.proofs.Common.{◌≡◌, ◌∙◌, ◌<◌, ◌≤◌, ℕ, Option, Some, None, length, arith, ap, sym, subst}
-use Rattle.std.specs.Prelude.{is_some}
+use Rattle.std.proofs.Common.{◌≡◌, ◌∙◌, ℕ, Some, arith, ap, sym}
 use Rattle.ft_segments.specs.Packing.{id_at}
-use Rattle.ft_segments.specs.Walk.{Placed, IsOf}
-use Rattle.ft_types.specs.declared.module.Module.{Module}
-use Rattle.ft_image.specs.Read.{number_at, sample_at, sample_root_at}
+use Rattle.ft_segments.specs.Walk.{IsOf}
+use Rattle.ft_image.specs.Read.{number_at}
 use Rattle.ft_image.proofs.Instruments.{instrument_is, map_read, samples_read, sample_absent, sample_found, sample_there, nothing}
 use Rattle.ft_image.proofs.instrument_reading.sample_root.Goals as goal
 

@@ -1,4 +1,4 @@
-use Rattle.std.proofs.Common.{◌≡◌, ◌+◌, ◌<◌, ℕ, get_or, length, arith, ap, inl, inr, sym, ◌∙◌, get_or-set_other, ◌≢◌, rules}
+use Rattle.std.proofs.Common.{◌≡◌, ◌+◌, ℕ, arith, ap, inl, inr, ◌∙◌, get_or-set_other, ◌≢◌, rules}
 use Rattle.std.proofs.lemmas.Grind.{get_or-set_at}
 use Rattle.std.proofs.lemmas.Bool.{cases_lt}
 use Rattle.std.proofs.lemmas.List.{length-set}

@@ -1,4 +1,4 @@
-use Rattle.std.proofs.Common.{◌≡◌, ◌≤◌, ◌<◌, ◌+◌, ◌*◌, ℕ, get_or, length}
+use Rattle.std.proofs.Common.{◌≡◌, ◌<◌, ◌+◌, ◌*◌, ℕ, get_or, length}
 use Rattle.ft_types.specs.Views.{empty_cell}
 use Rattle.ft_segments.specs.Packing.{word_at}
 use Rattle.ft_image.specs.Values.{cell_word}

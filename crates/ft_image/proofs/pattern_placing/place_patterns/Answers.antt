@@ -1,11 +1,9 @@
-use Rattle.std.proofs.Common.{◌≡◌, ◌+◌, ◌*◌, ◌<◌, ◌≤◌, ◌++◌, [], ◌∷◌, ℕ, List, length, take, map, get_or, ap, refl, sym, subst, ◌∙◌, arith, rules}
-use Rattle.std.specs.Prelude.{sum_by}
+use Rattle.std.proofs.Common.{◌<◌, ℕ, List, length, sym, subst, ◌∙◌, arith}
 use Rattle.ft_types.specs.Blocks.{pattern_blocks}
-use Rattle.ft_types.specs.Valid.{IsValidPattern}
 use Rattle.ft_segments.specs.Walk.{PatternIds}
 use Rattle.ft_image.specs.Laid.{pattern_laid}
 use Rattle.ft_image.specs.Shown.{ShowsPattern}
-use Rattle.ft_image.proofs.Laying.{end_more, end_within, roots_more, shown_more}
+use Rattle.ft_image.proofs.Laying.{end_more, roots_more, shown_more}
 use Rattle.ft_image.proofs.Stays.{pattern_stays}
 use Rattle.ft_image.proofs.pattern_placing.place_patterns.Goals as goal
 

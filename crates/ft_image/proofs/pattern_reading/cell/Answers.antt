@@ -1,9 +1,9 @@
-use Rattle.std.proofs.Common.{◌≡◌, ◌+◌, ◌*◌, ◌%◌, ◌/◌, ◌<◌, ◌≤◌, ℕ, arith, refl, sym}
+use Rattle.std.proofs.Common.{◌≡◌, ◌+◌, ◌*◌, ◌%◌, ◌/◌, ◌<◌, ℕ, arith, refl, sym}
 use Rattle.ft_types.specs.Blocks.{pieces_of}
 use Rattle.ft_types.specs.Views.{rows_at}
 use Rattle.ft_segments.specs.Walk.{IsOf}
 use Rattle.ft_image.proofs.Walked.{root_is}
-use Rattle.ft_image.proofs.Found.{no_cell, cell_past, cell_read, channels_read, body_is, number_low, pattern_is, rows_read}
+use Rattle.ft_image.proofs.Found.{cell_past, cell_read, channels_read, body_is, number_low, pattern_is, rows_read}
 use Rattle.ft_image.proofs.pattern_reading.cell.Goals as goal
 
 pub returns-then-from-word-clause-answer : goal.returns-then-from-word-clause-answer

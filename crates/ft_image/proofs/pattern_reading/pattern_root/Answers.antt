@@ -1,4 +1,4 @@
-use Rattle.std.proofs.Common.{◌≡◌, ◌%◌, ◌<◌, ◌≤◌, ℕ, length, ap, ◌∙◌, arith}
+use Rattle.std.proofs.Common.{ℕ, ap, ◌∙◌, arith}
 use Rattle.ft_segments.specs.Packing.{id_at}
 use Rattle.ft_image.proofs.Walked.{root_is}
 use Rattle.ft_image.proofs.Found.{counts_read, has_pattern}

@@ -1,4 +1,4 @@
-use Rattle.ft_image.proofs.Found.{no_rows, pattern_is, rows_read}
+use Rattle.ft_image.proofs.Found.{pattern_is, rows_read}
 use Rattle.std.proofs.Common.{ℕ}
 use Rattle.ft_segments.specs.Walk.{IsOf}
 use Rattle.ft_image.proofs.pattern_reading.rows.Goals as goal

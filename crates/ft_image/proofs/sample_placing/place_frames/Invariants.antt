@@ -1,4 +1,4 @@
-use Rattle.std.proofs.Common.{◌≡◌, ◌≤◌, ◌<◌, ◌+◌, ◌*◌, ℕ, length}
+use Rattle.std.proofs.Common.{◌≡◌, ◌<◌, ◌+◌, ◌*◌, ℕ, length}
 use Rattle.ft_segments.specs.Packing.{word_at}
 use Rattle.ft_image.specs.Values.{frames_word}
 use Rattle.ft_image.specs.Laid.{Keeps}

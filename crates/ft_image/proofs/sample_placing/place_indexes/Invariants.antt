@@ -1,4 +1,4 @@
-use Rattle.std.proofs.Common.{◌≡◌, ◌≤◌, ◌<◌, ◌+◌, ◌*◌, ℕ, length}
+use Rattle.std.proofs.Common.{◌≡◌, ◌<◌, ◌+◌, ◌*◌, ℕ, length}
 use Rattle.std.specs.List.{range_with_len}
 use Rattle.ft_segments.specs.Packing.{ids_word, word_at}
 use Rattle.ft_segments.specs.Walk.{bodies_of_index}

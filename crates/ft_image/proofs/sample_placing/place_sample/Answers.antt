@@ -1,8 +1,7 @@
-use Rattle.std.proofs.Common.{◌≡◌, ◌≢◌, ◌+◌, ◌*◌, ◌<◌, ◌≤◌, ℕ, ℤ, List, length, ap, refl, sym, ◌∙◌, arith}
+use Rattle.std.proofs.Common.{◌≡◌, ◌+◌, ◌*◌, ℕ, ℤ, List, length, ap, refl, ◌∙◌, arith}
 use Rattle.std.specs.List.{range_with_len}
-use Rattle.ft_types.specs.Blocks.{bodies_of, indexes_of, pieces_of}
-use Rattle.ft_segments.specs.Packing.{ids_word, word_at}
-use Rattle.ft_segments.specs.Walk.{bodies_of_index}
+use Rattle.ft_types.specs.Blocks.{bodies_of, indexes_of}
+use Rattle.ft_segments.specs.Packing.{word_at}
 use Rattle.ft_image.specs.Values.{frames_word}
 use Rattle.ft_image.specs.Laid.{sample_root_word}
 use Rattle.ft_image.proofs.Roots.{sample_filled}

@@ -1,4 +1,4 @@
-use Rattle.std.proofs.Common.{◌≡◌, ◌≤◌, ◌+◌, ◌*◌, map, take, length, sum_by}
+use Rattle.std.proofs.Common.{◌≡◌, ◌+◌, map, take, length, sum_by}
 use Rattle.ft_types.specs.Blocks.{sample_blocks}
 use Rattle.ft_segments.specs.Walk.{SampleIds}
 use Rattle.ft_image.specs.Shown.{Pairwise, ShowsSample}

@@ -1,5 +1,5 @@
-use Rattle.std.proofs.Common.{◌≡◌, ◌∙◌, ◌/◌, ◌%◌, ◌≤◌, ℕ, ap, refl, pos, get_or}
-use Rattle.std.specs.Int.{w16, cast_signed}
+use Rattle.std.proofs.Common.{◌∙◌, ◌/◌, refl, pos, get_or}
+use Rattle.std.specs.Int.{w16}
 use Rattle.ft_image.proofs.Samples.{root_used, sample_found, index_used, body_found, frame_fits, frame_read, signed_back}
 use Rattle.ft_image.proofs.sample_reading.frame.Goals as goal
 

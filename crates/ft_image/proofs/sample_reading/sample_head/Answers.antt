@@ -1,4 +1,4 @@
-use Rattle.std.proofs.Common.{◌≡◌, ◌∙◌, ◌≤◌, ℕ, ap, sym}
+use Rattle.std.proofs.Common.{◌≡◌, ◌∙◌, ℕ, ap, sym}
 use Rattle.ft_segments.specs.Packing.{word_at}
 use Rattle.ft_image.proofs.Walked.{sample_walk_root}
 use Rattle.ft_image.proofs.Samples.{root_used, sample_found}

@@ -1,4 +1,4 @@
-use Rattle.std.proofs.Common.{◌≡◌, ◌∙◌, ℕ, ap}
+use Rattle.std.proofs.Common.{◌∙◌, ℕ, ap}
 use Rattle.std.specs.Int.{w8, cast_signed}
 use Rattle.ft_image.proofs.Samples.{head_read}
 use Rattle.ft_image.proofs.sample_reading.sample_head_from.Goals as goal

@@ -1,11 +1,10 @@
-use Rattle.std.proofs.Common.{◌≡◌, ◌≢◌, ◌+◌, ◌*◌, ◌<◌, ◌≤◌, ℕ, List, length, map, ap, refl, sym, subst, ◌∙◌, arith}
+use Rattle.std.proofs.Common.{◌≡◌, ◌+◌, ℕ, List, map, ap, refl, subst, ◌∙◌, arith}
 use Rattle.std.specs.Prelude.{sum_by}
 use Rattle.ft_types.specs.declared.pattern.Pattern.{Pattern}
 use Rattle.ft_types.specs.declared.instrument.Instrument.{Instrument}
 use Rattle.ft_types.specs.Blocks.{pattern_blocks, instrument_blocks}
-use Rattle.ft_segments.specs.Packing.{word_at}
 use Rattle.ft_segments.specs.Walk.{PatternIds, InstrumentIds}
-use Rattle.ft_image.specs.Laid.{Keeps, laid, behind_patterns, pattern_laid, instrument_laid, song_laid, song_root_word}
+use Rattle.ft_image.specs.Laid.{laid, behind_patterns, pattern_laid, instrument_laid, song_laid}
 use Rattle.ft_image.specs.Shown.{Pairwise, ShowsPattern, ShowsInstrument}
 use Rattle.ft_image.proofs.Laying.{laid_stays}
 use Rattle.ft_image.proofs.Roots.{song_filled}
