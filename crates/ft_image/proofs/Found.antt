@@ -218,7 +218,8 @@ cell_read p m k found row channel number body word shows has r c n at w =
     let within : number / 256 < length (pattern_walk p.pool m.channels found).bodies = omega (arith, has.shown.count) in
     let named = body_named p m k found (number / 256) shows has b in
     let is : slice_index (pattern_walk p.pool m.channels found).bodies (number / 256) ≡ body
-    = get_or_from_slice_get (pattern_walk p.pool m.channels found).bodies (number / 256) (id_at p.pool found 1 (number / 256)) 0 named ∙ sym at in
+    = get_or_from_slice_get (pattern_walk p.pool m.channels found).bodies (number / 256) (id_at p.pool found 1 (number / 256)) 0 named
+    ∙ sym at in
     let whole : number / 256 * 256 + number % 256 ≡ number = omega arith in
     let one : cell_at m k row channel ≡ get_or cells number empty_cell
     = cell_within p m k found row channel has (omega arith) ∙ ap (λ (i : ℕ). get_or cells i empty_cell) (sym n) in (

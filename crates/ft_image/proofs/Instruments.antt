@@ -100,9 +100,11 @@ places_low x valid =
     let g = valid.panning.loop_end in
     let h = valid.panning.flags in
     cons_low x.volume.sustain
-    (x.volume.loop_start ∷ x.volume.loop_end ∷ x.volume.flags ∷ x.panning.sustain ∷ x.panning.loop_start ∷ x.panning.loop_end ∷ x.panning.flags ∷ [])
+    (x.volume.loop_start ∷ x.volume.loop_end ∷ x.volume.flags ∷ x.panning.sustain ∷ x.panning.loop_start
+    ∷ x.panning.loop_end ∷ x.panning.flags ∷ [])
     (omega arith)
-    (seven_low x.volume.loop_start x.volume.loop_end x.volume.flags x.panning.sustain x.panning.loop_start x.panning.loop_end x.panning.flags
+    (seven_low x.volume.loop_start x.volume.loop_end x.volume.flags x.panning.sustain
+    x.panning.loop_start x.panning.loop_end x.panning.flags
     (omega arith) (omega arith) (omega arith) (omega arith) (omega arith) (omega arith) (omega arith))
 
 pub count_read : (x : Instrument) (word i : ℕ) → IsValidInstrument x → word ≡ bytes_word (count_bytes x) 0 → i < 8

@@ -28,4 +28,5 @@ below_at {X = X} n f k lt =
     let within : k < length (map f (range_with_len 0 n)) = omega (arith, length-map-range_with_len f 0 n) in
     let one = stored (map f (range_with_len 0 n)) k within in
     one.1 ∙ ap (λ (x : X). Some x)
-    (sym (get_or_from_slice_get (map f (range_with_len 0 n)) k one.0 one.0 one.1) ∙ get_or-map-range_with_len f 0 n k k one.0 lt (omega arith))
+    (sym (get_or_from_slice_get (map f (range_with_len 0 n)) k one.0 one.0 one.1)
+    ∙ get_or-map-range_with_len f 0 n k k one.0 lt (omega arith))

@@ -36,7 +36,14 @@ index_roots from indexes bodies n =
 sample_name : (x : Sample) (ids : List ℕ) (k : ℕ) → k < 3 → sample_root_word x ids (3 + k) ≡ bytes_word x.name k
 sample_name x ids k lt =
     let less : 3 + k - 3 ≡ k = omega arith in
-    rw (ne_eqb (3 + k) 0 (omega arith), ne_eqb (3 + k) 1 (omega arith), ne_eqb (3 + k) 2 (omega arith), lt-ltb (3 + k) 6 (omega arith), less) refl
+    rw (
+      ne_eqb (3 + k) 0 (omega arith),
+      ne_eqb (3 + k) 1 (omega arith),
+      ne_eqb (3 + k) 2 (omega arith),
+      lt-ltb (3 + k) 6
+          (omega arith),
+      less,
+    ) refl
 
 sample_others : (x : Sample) (ids : List ℕ) (k : ℕ) → 6 ≤ k → k ≢ 16 → sample_root_word x ids k ≡ 0
 sample_others x ids k ge ne =
@@ -81,7 +88,14 @@ module _ (x : Instrument) (ids : List ℕ) where
   instrument_name : (k : ℕ) → k < 3 → instrument_root_word x ids (3 + k) ≡ bytes_word x.name k
   instrument_name k lt =
       let less : 3 + k - 3 ≡ k = omega arith in
-      rw (ne_eqb (3 + k) 0 (omega arith), ne_eqb (3 + k) 1 (omega arith), ne_eqb (3 + k) 2 (omega arith), lt-ltb (3 + k) 6 (omega arith), less) refl
+      rw (
+        ne_eqb (3 + k) 0 (omega arith),
+        ne_eqb (3 + k) 1 (omega arith),
+        ne_eqb (3 + k) 2 (omega arith),
+        lt-ltb (3 + k) 6
+            (omega arith),
+        less,
+      ) refl
 
   instrument_notes : (k : ℕ) → k < 12 → instrument_root_word x ids (6 + k) ≡ bytes_word x.map k
   instrument_notes k lt =
@@ -181,7 +195,14 @@ module _ (m : Module) (ps is : List ℕ) where
   song_tracker : (k : ℕ) → k < 3 → song_root_word m ps is (5 + k) ≡ bytes_word m.tracker k
   song_tracker k lt =
       let less : 5 + k - 5 ≡ k = omega arith in
-      rw (ne_eqb (5 + k) 0 (omega arith), ne_eqb (5 + k) 1 (omega arith), le-ltb (5 + k) 5 (omega arith), lt-ltb (5 + k) 8 (omega arith), less) refl
+      rw (
+        ne_eqb (5 + k) 0 (omega arith),
+        ne_eqb (5 + k) 1 (omega arith),
+        le-ltb (5 + k) 5 (omega arith),
+        lt-ltb (5 + k) 8
+            (omega arith),
+        less,
+      ) refl
 
   song_orders : (k : ℕ) → k < 32 → song_root_word m ps is (8 + k) ≡ bytes_word m.orders k
   song_orders k lt =

@@ -57,7 +57,8 @@ found p m (suc k) n root x shows at is =
     let named = sample_at_walk p.pool head n (omega arith) in
     let here : id ≡ root
     = same_Some id root
-    (sym (ap (λ (all : Option InstrumentIds). root_in (sample_ids_in all n)) has.named ∙ ap root_in named ∙ ap (λ (r : ℕ). Some r) (sample_walk_root p.pool id))
+    (sym (ap (λ (all : Option InstrumentIds). root_in (sample_ids_in all n)) has.named ∙ ap root_in named
+    ∙ ap (λ (r : ℕ). Some r) (sample_walk_root p.pool id))
     ∙ at) in
     let valid : IsValidInstrument y.0
     = subst IsValidInstrument (get_or_from_slice_get m.instruments k y.0 y.0 y.1) (shows.valid.instruments k y.0 lt) in

@@ -98,7 +98,8 @@ index_run s from indexes bodies k lt =
     let m = one_more s (from + k) in
     let e : under s (from + (k + 1)) ≡ under s (from + k + 1) = ap (under s) (omega arith) in
     let low : min (1024 * k) bodies ≡ 1024 * k = omega arith in
-    let a : under s (from + indexes + min (1024 * k) bodies) ≡ under s (from + indexes + 1024 * k) = ap (λ (n : ℕ). under s (from + indexes + n)) low in
+    let a : under s (from + indexes + min (1024 * k) bodies) ≡ under s (from + indexes + 1024 * k)
+    = ap (λ (n : ℕ). under s (from + indexes + n)) low in
     let r = run s (from + indexes + 1024 * k) (bodies_of_index bodies k) in
     let high : from + indexes + min (1024 * (k + 1)) bodies ≡ from + indexes + 1024 * k + bodies_of_index bodies k = omega arith in
     let b = ap (under s) high in

@@ -49,7 +49,8 @@ unfolding walk
 instrument_at_walk p k lt =
     below_at (instruments_in p.pool p.root) (λ i. instrument_walk p.pool (id_at p.pool p.root 104 i)) k lt
 
-pub of_instrument : (p : Placed) (k s : ℕ) (ids : InstrumentIds) → slice_get (ids_of p).instruments k ≡ Some ids → 1 ≤ instrument_uses s ids → IsOf p s
+pub of_instrument : (p : Placed) (k s : ℕ) (ids : InstrumentIds) → slice_get (ids_of p).instruments k ≡ Some ids
+    → 1 ≤ instrument_uses s ids → IsOf p s
 of_instrument p k s ids is one =
     let part = part_of_sum (instrument_uses s) (ids_of p).instruments k ids is in omega arith
 
@@ -57,7 +58,8 @@ pub instrument_root_of : (s : ℕ) (ids : InstrumentIds) → ids.root ≡ s → 
 instrument_root_of s ids is = let one : is_it s ids.root ≡ 1 = ap (is_it s) is ∙ itself s in omega arith
 
 -- a sample's segments are its instrument's
-pub of_sample : (s n : ℕ) (ids : InstrumentIds) (one : SampleIds) → slice_get ids.samples n ≡ Some one → 1 ≤ sample_uses s one → 1 ≤ instrument_uses s ids
+pub of_sample : (s n : ℕ) (ids : InstrumentIds) (one : SampleIds) → slice_get ids.samples n ≡ Some one → 1 ≤ sample_uses s one
+    → 1 ≤ instrument_uses s ids
 of_sample s n ids one is lt =
     let part = part_of_sum (sample_uses s) ids.samples n one is in omega arith
 
@@ -74,7 +76,8 @@ sample_walk_root pool root = refl
 pub sample_root_of : (s : ℕ) (ids : SampleIds) → ids.root ≡ s → 1 ≤ sample_uses s ids
 sample_root_of s ids is = let one : is_it s ids.root ≡ 1 = ap (is_it s) is ∙ itself s in omega arith
 
-pub of_index : (s k : ℕ) (ids : SampleIds) (index : IndexIds) → slice_get ids.indexes k ≡ Some index → 1 ≤ index_uses s index → 1 ≤ sample_uses s ids
+pub of_index : (s k : ℕ) (ids : SampleIds) (index : IndexIds) → slice_get ids.indexes k ≡ Some index → 1 ≤ index_uses s index
+    → 1 ≤ sample_uses s ids
 of_index s k ids index is lt =
     let part = part_of_sum (index_uses s) ids.indexes k index is in omega arith
 
@@ -90,4 +93,5 @@ pub index_at_walk : (pool : List ℕ) (root k : ℕ) → k < pieces_of (bodies_i
     → slice_get (sample_walk pool root).indexes k ≡ Some (index_walk pool (bodies_of_index (bodies_in pool root) k) (id_at pool root 16 k))
 unfolding sample_walk
 index_at_walk pool root k lt =
-    below_at (pieces_of (bodies_in pool root) 1024) (λ i. index_walk pool (bodies_of_index (bodies_in pool root) i) (id_at pool root 16 i)) k lt
+    below_at (pieces_of (bodies_in pool root) 1024) (λ i. index_walk pool (bodies_of_index (bodies_in pool root) i)
+    (id_at pool root 16 i)) k lt

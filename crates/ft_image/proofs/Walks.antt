@@ -109,7 +109,8 @@ sample_walks pool x q valid low shown =
     let lt = slice_get_within q.indexes k i is in
     let four : k < 4 = omega (arith, shown.count) in
     let word : word_at pool q.root (16 + k / 4) ≡ ids_word (map (λ (i : IndexIds). i.root) q.indexes) (k / 4)
-    = ap (λ (j : ℕ). word_at pool q.root j) (omega arith) ∙ shown.indexes ∙ ap (λ (j : ℕ). ids_word (map (λ (i : IndexIds). i.root) q.indexes) j) (omega arith) in
+    = ap (λ (j : ℕ). word_at pool q.root j) (omega arith) ∙ shown.indexes
+    ∙ ap (λ (j : ℕ). ids_word (map (λ (i : IndexIds). i.root) q.indexes) j) (omega arith) in
     let id : id_at pool q.root 16 k ≡ i.root
     = id_read pool (map (λ (i : IndexIds). i.root) q.indexes) q.root 16 k are word ∙ root_at (λ (i : IndexIds). i.root) q.indexes k i is in
     index_walks pool x k (bodies_of_index (bodies_in pool q.root) k) i (ap (λ (b : ℕ). bodies_of_index b k) bodies)
@@ -182,7 +183,8 @@ walks pool m ids segments valid few sound stands =
     let id : id_at pool ids.root 40 k ≡ i.root
     = id_read pool (map (λ (i : PatternIds). i.root) ids.patterns) ids.root 40 k pattern_ids (stands.root.patterns (k / 4) (omega arith))
     ∙ root_at (λ (i : PatternIds). i.root) ids.patterns k i is in
-    sym (pattern_walks pool m.channels one.0 i valid.few_channels pattern.few_rows (λ s used. of_pattern k s i is used) (stands.patterns.each k one.0 i one.1 is))
+    sym (pattern_walks pool m.channels one.0 i valid.few_channels pattern.few_rows (λ s used. of_pattern k s i is used)
+    (stands.patterns.each k one.0 i one.1 is))
     ∙ ap (λ (c : ℕ). pattern_walk pool c i.root) (sym channels)
     ∙ ap (λ (r : ℕ). pattern_walk pool (channels_in pool ids.root) r) (sym id)) in
     let l = instruments_in pool ids.root in
@@ -203,7 +205,8 @@ walks pool m ids segments valid few sound stands =
     let instrument : IsValidInstrument one.0
     = subst IsValidInstrument (get_or_from_slice_get m.instruments k one.0 one.0 one.1) (valid.instruments k one.0 here) in
     let id : id_at pool ids.root 104 k ≡ i.root
-    = id_read pool (map (λ (i : InstrumentIds). i.root) ids.instruments) ids.root 104 k instrument_ids (stands.root.instruments (k / 4) (omega arith))
+    = id_read pool (map (λ (i : InstrumentIds). i.root) ids.instruments) ids.root 104 k instrument_ids (stands.root.instruments (k / 4)
+    (omega arith))
     ∙ root_at (λ (i : InstrumentIds). i.root) ids.instruments k i is in
     sym (instrument_walks pool one.0 i instrument (λ s used. of_instrument k s i is used) (stands.instruments.each k one.0 i one.1 is))
     ∙ ap (λ (r : ℕ). instrument_walk pool r) (sym id)) in

@@ -17,7 +17,8 @@ laid_shows pool m valid few long stands =
     let segments : blocks_of m ≡ length pool / 256 = omega arith in
     record {
       valid = valid;
-      sound = subst (λ (ids : SongIds). IsSound (length pool / 256) ids) (sym is) (subst (λ (n : ℕ). IsSound n (song_laid m)) segments (laid_sound m));
+      sound = subst (λ (ids : SongIds). IsSound (length pool / 256) ids) (sym is) (subst (λ (n : ℕ). IsSound n (song_laid m)) segments
+          (laid_sound m));
       stands = subst (λ (ids : SongIds). Stands pool m ids) (sym is) stands;
     }
 

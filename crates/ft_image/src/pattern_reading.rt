@@ -58,8 +58,9 @@ pub fn cell_from(word: u64) -> Cell
     }
 }
 
-/// The cell of a row and a channel of a pattern, in the song of a root. It is empty past the rows, and
-/// where the pattern isn't stored. Nothing is said of a channel that isn't below the channels.
+/// The cell of a row and a channel of a pattern, in the song of a root. It is empty past the rows,
+/// and where the pattern isn't stored. Nothing is said of a channel that isn't below the
+/// channels.
 pub fn cell<V: WordView>(view: &mut V, root: u16, pattern: u8, row: u16, channel: u8) -> Cell
     ensures narrows { (p : Placed) (s : ℕ) → V.may_show view.new p s → V.may_show view.old p s }
     ensures answer { (p : Placed) (m : Module) → MayShowAll V.may_show view.new p → Shows p m

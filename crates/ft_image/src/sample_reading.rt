@@ -49,8 +49,8 @@ pub fn sample_head<V: WordView>(view: &mut V, sample: u16) -> SampleHead
     sample_head_from(lengths, loops, tuning)
 }
 
-/// The raw frame at a place of the sample of a root. Nothing is said of a place that isn't below the
-/// frames.
+/// The raw frame at a place of the sample of a root. Nothing is said of a place that isn't below
+/// the frames.
 pub fn frame<V: WordView>(view: &mut V, sample: u16, place: u32) -> i16
     ensures narrows { (p : Placed) (s : ℕ) → V.may_show view.new p s → V.may_show view.old p s }
     ensures answer { (p : Placed) (m : Module) (x : Sample)

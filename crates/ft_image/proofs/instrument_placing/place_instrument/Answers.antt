@@ -14,7 +14,8 @@ returns-clause-shown c =
     let x = c.args.instrument.now in
     let n = c.args.from in
     let samples = c.as_slice.ensures in
-    let shown = subst (λ (all : List Sample). Pairwise (ShowsSample c.place_samples-next.new.words) all (laid sample_blocks sample_laid (n + 1) all))
+    let shown = subst (λ (all : List Sample). Pairwise (ShowsSample c.place_samples-next.new.words) all (laid sample_blocks sample_laid
+    (n + 1) all))
     samples c.place_samples-next.ensures.shown in
     instrument_filled c.fill.new.words n x
     (λ j lt.

@@ -28,5 +28,6 @@ loop-instrument-preserved c =
           c.loop-instrument.words c.place_instrument-next.new.words from xs k x lt is
           (λ s j low high l. c.place_instrument-next.ensures.kept s j low (omega arith) l)
           made.shown
-          (subst (λ (n : ℕ). ShowsInstrument c.place_instrument-next.new.words x (instrument_laid n x)) next c.place_instrument-next.ensures.shown);
+          (subst (λ (n : ℕ). ShowsInstrument c.place_instrument-next.new.words x
+          (instrument_laid n x)) next c.place_instrument-next.ensures.shown);
     }

@@ -22,8 +22,10 @@ returns-then-number-byte-clause-answer g c = λ p m may shows is.
     let before = λ (s : ℕ) (of : IsOf p s). c.word-map.ensures.narrows p s (may s of) in
     let has = c.in-Some.ensures.answer p m (λ (s : ℕ) (of : IsOf p s). c.word-counts.ensures.narrows p s (before s of)) shows is in
     let one = instrument_is p m number found has in
-    let samples = c.byte.ensures ∙ samples_read p m number found c.word-counts.result shows has (c.word-counts.ensures.answer p (before found one)) in
-    let named = c.byte-number.ensures ∙ map_read p m number found c.args.note c.word-map.result shows has c.requires (c.word-map.ensures.answer p (may found one)) in
+    let samples = c.byte.ensures ∙ samples_read p m number found c.word-counts.result shows has (c.word-counts.ensures.answer p
+    (before found one)) in
+    let named = c.byte-number.ensures ∙ map_read p m number found c.args.note c.word-map.result shows has c.requires
+    (c.word-map.ensures.answer p (may found one)) in
     let test = c.if-number-byte.true in
     sym (sample_absent p m number found (number_at m number c.args.note) shows has (omega (arith, samples, named))).0
 
@@ -34,8 +36,10 @@ returns-then-number-byte-clause-missing g c = λ p m may shows is.
     let before = λ (s : ℕ) (of : IsOf p s). c.word-map.ensures.narrows p s (may s of) in
     let has = c.in-Some.ensures.answer p m (λ (s : ℕ) (of : IsOf p s). c.word-counts.ensures.narrows p s (before s of)) shows is in
     let one = instrument_is p m number found has in
-    let samples = c.byte.ensures ∙ samples_read p m number found c.word-counts.result shows has (c.word-counts.ensures.answer p (before found one)) in
-    let named = c.byte-number.ensures ∙ map_read p m number found c.args.note c.word-map.result shows has c.requires (c.word-map.ensures.answer p (may found one)) in
+    let samples = c.byte.ensures ∙ samples_read p m number found c.word-counts.result shows has (c.word-counts.ensures.answer p
+    (before found one)) in
+    let named = c.byte-number.ensures ∙ map_read p m number found c.args.note c.word-map.result shows has c.requires
+    (c.word-map.ensures.answer p (may found one)) in
     let test = c.if-number-byte.true in
     sym (sample_absent p m number found (number_at m number c.args.note) shows has (omega (arith, samples, named))).1
 
@@ -47,8 +51,10 @@ returns-clause-answer g c = λ p m may shows is.
     let before = λ (s : ℕ) (of : IsOf p s). c.word-map.ensures.narrows p s (at_map s of) in
     let has = c.in-Some.ensures.answer p m (λ (s : ℕ) (of : IsOf p s). c.word-counts.ensures.narrows p s (before s of)) shows is in
     let one = instrument_is p m number found has in
-    let samples = c.byte.ensures ∙ samples_read p m number found c.word-counts.result shows has (c.word-counts.ensures.answer p (before found one)) in
-    let named = c.byte-number.ensures ∙ map_read p m number found c.args.note c.word-map.result shows has c.requires (c.word-map.ensures.answer p (at_map found one)) in
+    let samples = c.byte.ensures ∙ samples_read p m number found c.word-counts.result shows has (c.word-counts.ensures.answer p
+    (before found one)) in
+    let named = c.byte-number.ensures ∙ map_read p m number found c.args.note c.word-map.result shows has c.requires
+    (c.word-map.ensures.answer p (at_map found one)) in
     let test = c.if-number-byte.false in
     let id : c.id.result ≡ id_at p.pool found 30 (number_at m number c.args.note)
     = c.id.ensures.answer p (may found one) ∙ ap (λ (i : ℕ). id_at p.pool found 30 i) (c.from.ensures ∙ named) in
@@ -63,7 +69,9 @@ returns-clause-missing g c = λ p m may shows is.
     let before = λ (s : ℕ) (of : IsOf p s). c.word-map.ensures.narrows p s (at_map s of) in
     let has = c.in-Some.ensures.answer p m (λ (s : ℕ) (of : IsOf p s). c.word-counts.ensures.narrows p s (before s of)) shows is in
     let one = instrument_is p m number found has in
-    let samples = c.byte.ensures ∙ samples_read p m number found c.word-counts.result shows has (c.word-counts.ensures.answer p (before found one)) in
-    let named = c.byte-number.ensures ∙ map_read p m number found c.args.note c.word-map.result shows has c.requires (c.word-map.ensures.answer p (at_map found one)) in
+    let samples = c.byte.ensures ∙ samples_read p m number found c.word-counts.result shows has (c.word-counts.ensures.answer p
+    (before found one)) in
+    let named = c.byte-number.ensures ∙ map_read p m number found c.args.note c.word-map.result shows has c.requires
+    (c.word-map.ensures.answer p (at_map found one)) in
     let test = c.if-number-byte.false in
     sym (sample_there p m number found (number_at m number c.args.note) has (omega (arith, samples, named)))

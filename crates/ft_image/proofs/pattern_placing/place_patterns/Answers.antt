@@ -29,5 +29,6 @@ loop-pattern-preserved c =
           c.loop-pattern.words c.place_pattern-next.new.words from xs k x lt is
           (λ s j low high l. c.place_pattern-next.ensures.kept s j low (omega arith) l)
           made.shown
-          (subst (λ (n : ℕ). ShowsPattern c.place_pattern-next.new.words c.args.channels x (ids n x)) next c.place_pattern-next.ensures.shown);
+          (subst (λ (n : ℕ). ShowsPattern c.place_pattern-next.new.words c.args.channels x
+          (ids n x)) next c.place_pattern-next.ensures.shown);
     }

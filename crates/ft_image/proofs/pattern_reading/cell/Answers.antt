@@ -48,9 +48,11 @@ returns-clause-answer g c = λ p m may shows is lt.
     = rw (c.from-2.ensures, c.from-3.ensures, channels) refl in
     let id = c.id-body.ensures.answer p (at_body found pattern) in
     let low = number_low p m c.args.pattern found c.args.row c.args.channel shows has row lt in
-    let within : (c.from-2.result * (c.word-2.result / 4294967296 % 256) + c.from-3.result) / 256 < pieces_of (has.pattern.rows * m.channels) 256
+    let within : (c.from-2.result * (c.word-2.result / 4294967296 % 256) + c.from-3.result) / 256 < pieces_of
+    (has.pattern.rows * m.channels) 256
     = omega (arith, number, low.0) in
     let body = body_is p m c.args.pattern found _ c.id-body.result shows has within id in
     let word = c.word-3.ensures.answer p (may c.id-body.result body) in
-    let read = cell_read p m c.args.pattern found c.args.row c.args.channel _ c.id-body.result c.word-3.result shows has row lt number id word in
+    let read = cell_read p m c.args.pattern found c.args.row c.args.channel _ c.id-body.result c.word-3.result
+    shows has row lt number id word in
     c.cell_from.ensures _ read.0 read.1

@@ -17,4 +17,5 @@ returns-clause-answer g c = λ p m may shows is.
     let word = c.word.ensures.answer p (c.id.ensures.narrows p c.args.root here) in
     let counts = counts_read p m c.args.root c.word.result shows is word in
     let test = c.if-from-word.false in
-    has_pattern p m c.args.pattern c.args.root c.id.result shows is (omega (arith, counts.0)) (c.id.ensures.answer p here ∙ ap (λ (i : ℕ). id_at p.pool c.args.root 40 i) c.from-2.ensures)
+    has_pattern p m c.args.pattern c.args.root c.id.result shows is (omega (arith, counts.0)) (c.id.ensures.answer p here
+    ∙ ap (λ (i : ℕ). id_at p.pool c.args.root 40 i) c.from-2.ensures)

@@ -22,7 +22,8 @@ loop-sample-preserved c =
       long = c.place_sample-next.auto.words ∙ made.long;
       next = omega (arith, c.place_sample-next.ensures.next);
       kept = λ s j low high l. c.place_sample-next.ensures.kept s j low (omega arith) l ∙ made.kept s j low high l;
-      roots = c.push.ensures.items ∙ rw (made.roots, next) (sym (roots_more sample_blocks sample_laid (λ (i : SampleIds). i.root) from xs k x lt is));
+      roots = c.push.ensures.items ∙ rw (made.roots, next) (sym (roots_more sample_blocks sample_laid (λ
+          (i : SampleIds). i.root) from xs k x lt is));
       shown = shown_more sample_blocks sample_laid ShowsSample sample_stays
           c.loop-sample.words c.place_sample-next.new.words from xs k x lt is
           (λ s j low high l. c.place_sample-next.ensures.kept s j low (omega arith) l)

@@ -11,5 +11,6 @@ invariant-loop-sample l = record {
   next : l.next ≡ l.from + sum_by sample_blocks (take l.sample-index l.samples);
   kept : Keeps 0 l.from l.fn.words l.words;
   roots : l.roots.items ≡ map (λ (ids : SampleIds). ids.root) (laid sample_blocks sample_laid l.from (take l.sample-index l.samples));
-  shown : Pairwise (ShowsSample l.words) (take l.sample-index l.samples) (laid sample_blocks sample_laid l.from (take l.sample-index l.samples));
+  shown : Pairwise (ShowsSample l.words) (take l.sample-index l.samples) (laid sample_blocks sample_laid l.from
+      (take l.sample-index l.samples));
 }

@@ -13,7 +13,8 @@ returns-clause-answer g c = λ p m x may shows of lt.
     let in_body = c.word-word.ensures.narrows p root here in
     let index = c.id-index.ensures.answer p (c.id-body.ensures.narrows p root in_body) in
     let index_one = index_used p x root place c.id-index.result sample lt index in
-    let at_index = c.word-word.ensures.narrows p c.id-index.result (may c.id-index.result (sample.within c.id-index.result index_one) index_one) in
+    let at_index = c.word-word.ensures.narrows p c.id-index.result (may c.id-index.result
+    (sample.within c.id-index.result index_one) index_one) in
     let body = c.id-body.ensures.answer p at_index in
     let one = body_found p x root place c.id-index.result c.id-body.result sample lt index body in
     let word = c.word-word.ensures.answer p (may c.id-body.result (sample.within c.id-body.result one.0) one.0) ∙ one.1 in

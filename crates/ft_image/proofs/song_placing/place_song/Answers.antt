@@ -26,11 +26,13 @@ returns c =
     ∙ ap (λ (all : List Pattern). map (λ (i : PatternIds). i.root) (laid size ids 1 all)) patterns in
     let is : c.place_instruments.new.roots.items ≡ map (λ (i : InstrumentIds). i.root) (song_laid m).instruments
     = c.place_instruments.ensures.roots
-    ∙ ap (λ (all : List Instrument). map (λ (i : InstrumentIds). i.root) (laid instrument_blocks instrument_laid c.place_patterns-next.result all)) instruments
+    ∙ ap (λ (all : List Instrument). map (λ (i : InstrumentIds). i.root)
+    (laid instrument_blocks instrument_laid c.place_patterns-next.result all)) instruments
     ∙ ap (λ (n : ℕ). map (λ (i : InstrumentIds). i.root) (laid instrument_blocks instrument_laid n m.instruments)) next in
     let first = subst (λ (all : List Pattern). Pairwise (ShowsPattern c.place_patterns-next.new.words m.channels) all (laid size ids 1 all))
     patterns c.place_patterns-next.ensures.shown in
-    let second = subst (λ (n : ℕ). Pairwise (ShowsInstrument c.place_instruments.new.words) m.instruments (laid instrument_blocks instrument_laid n m.instruments))
+    let second = subst (λ (n : ℕ). Pairwise (ShowsInstrument c.place_instruments.new.words) m.instruments
+    (laid instrument_blocks instrument_laid n m.instruments))
     next
     (subst (λ (all : List Instrument). Pairwise (ShowsInstrument c.place_instruments.new.words) all
     (laid instrument_blocks instrument_laid c.place_patterns-next.result all)) instruments c.place_instruments.ensures.shown) in

@@ -10,4 +10,5 @@ returns-then-at-count c = sym (get_or-range_with_len c.args.first c.args.count c
 pub returns : goal.returns
 returns c =
     let past = c.if-at-count.false in
-    sym (get_or_past (range_with_len c.args.first c.args.count) c.args.at 0 (omega (arith, length-range_with_len c.args.first c.args.count)))
+    sym (get_or_past (range_with_len c.args.first c.args.count) c.args.at 0 (omega
+    (arith, length-range_with_len c.args.first c.args.count)))
