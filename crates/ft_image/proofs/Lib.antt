@@ -10,3 +10,4 @@ pub mod Laying
 pub mod Stays
 pub mod Roots
 pub mod Whole
+pub mod Kept

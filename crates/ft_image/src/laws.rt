@@ -1,8 +1,13 @@
 //! Laws of the definitions. These functions do nothing; their contracts say what holds.
 
-ghost use Rattle.ft_image.specs.Laws.{WalkIsThere};
+ghost use Rattle.ft_image.specs.Laws.{WalkIsThere, ShownStays};
 
 /// Where words stand for a song by some ids, the walk from its root finds these ids.
 pub fn walk_is_there()
     ensures { WalkIsThere }
+{}
+
+/// Where words change outside of a version's segments alone, the version shows what it showed.
+pub fn shown_stays()
+    ensures { ShownStays }
 {}
