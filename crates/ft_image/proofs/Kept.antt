@@ -1,16 +1,16 @@
 -- What a version shows it shows in all pools that have the same words in its segments.
-use Rattle.std.proofs.Common.{◌≡◌, ◌≢◌, ℕ, ◌+◌, ◌*◌, ◌/◌, ◌<◌, ◌≤◌, List, Option, Some, get_or, length, refl, sym, ap, subst, ◌∙◌, arith}
+use Rattle.std.proofs.Common.{◌≡◌, ℕ, ◌+◌, ◌/◌, ◌<◌, ◌≤◌, List, Some, length, refl, sym, ap, subst, ◌∙◌, arith}
 use Rattle.std.specs.Prelude.{slice_index}
-use Rattle.std.specs.List.{slice_get, sum_by}
-use Rattle.std.proofs.lemmas.Option.{get_or_from_slice_get, slice_get_within}
+use Rattle.std.specs.List.{slice_get}
+use Rattle.std.proofs.lemmas.Option.{get_or_from_slice_get}
 use Rattle.ft_types.specs.declared.module.Module.{Module}
 use Rattle.ft_types.specs.declared.pattern.Pattern.{Pattern}
 use Rattle.ft_types.specs.declared.instrument.Instrument.{Instrument}
 use Rattle.ft_types.specs.declared.sample.Sample.{Sample}
 use Rattle.ft_segments.specs.Packing.{word_at}
-use Rattle.ft_segments.specs.Walk.{PatternIds, IndexIds, SampleIds, InstrumentIds, SongIds, Placed, IsOf, IsSound, SameWords, ids_of, walk, uses, pattern_uses, index_uses, sample_uses, instrument_uses}
-use Rattle.ft_image.specs.Shown.{Pairwise, ShowsPattern, ShowsIndex, ShowsSample, ShowsInstrument, ShowsSong, Stands, Shows}
-use Rattle.ft_image.proofs.Lists.{stored, part_of_sum}
+use Rattle.ft_segments.specs.Walk.{PatternIds, IndexIds, SampleIds, InstrumentIds, SongIds, Placed, IsOf, IsSound, SameWords, ids_of, walk, pattern_uses, index_uses, sample_uses, instrument_uses}
+use Rattle.ft_image.specs.Shown.{ShowsPattern, ShowsIndex, ShowsSample, ShowsInstrument, ShowsSong, Stands, Shows}
+use Rattle.ft_image.proofs.Lists.{stored}
 use Rattle.ft_image.proofs.Walked.{root_is, root_walk, of_pattern, pattern_root_of, pattern_body_of, of_instrument, instrument_root_of, of_sample, sample_root_of, of_index, index_root_of, index_body_of}
 use Rattle.ft_image.proofs.Walks.{walks}
 
@@ -126,7 +126,8 @@ shows_kept p m new shows few long same =
       is,
       record {
         valid = shows.valid;
-        sound = subst (λ (ids : SongIds). IsSound (length new / 256) ids) (sym is) (subst (λ (k : ℕ). IsSound k (ids_of p)) segments shows.sound);
+        sound = subst (λ (ids : SongIds). IsSound (length new / 256) ids) (sym is) (subst (λ (k : ℕ). IsSound k
+            (ids_of p)) segments shows.sound);
         stands = subst (λ (ids : SongIds). Stands new m ids) (sym is) stands;
       },
     )
