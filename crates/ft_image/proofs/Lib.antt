@@ -11,3 +11,4 @@ pub mod Stays
 pub mod Roots
 pub mod Whole
 pub mod Kept
+pub mod Counted

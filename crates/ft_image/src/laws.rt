@@ -1,6 +1,6 @@
 //! Laws of the definitions. These functions do nothing; their contracts say what holds.
 
-ghost use Rattle.ft_image.specs.Laws.{WalkIsThere, ShownStays};
+ghost use Rattle.ft_image.specs.Laws.{WalkIsThere, ShownStays, ShownHasBlocks};
 
 /// Where words stand for a song by some ids, the walk from its root finds these ids.
 pub fn walk_is_there()
@@ -10,4 +10,9 @@ pub fn walk_is_there()
 /// Where words change outside of a version's segments alone, the version shows what it showed.
 pub fn shown_stays()
     ensures { ShownStays }
+{}
+
+/// A version that shows a song has as many segments as the song has blocks.
+pub fn shown_has_blocks()
+    ensures { ShownHasBlocks }
 {}

@@ -20,7 +20,7 @@ mod view;
 
 pub use image::{Image, place};
 pub use instrument_reading::{envelope, sample_root, shape};
-pub use laws::{shown_stays, walk_is_there};
+pub use laws::{shown_has_blocks, shown_stays, walk_is_there};
 pub use pattern_reading::{cell, rows};
 pub use sample_reading::{frame, sample_head};
 pub use slice::SliceWords;
