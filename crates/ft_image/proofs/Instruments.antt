@@ -234,3 +234,25 @@ nothing p m (suc k) n shows none =
       ],
       ap (λ (x : Option Instrument). is_some (sample_in x n)) none,
     )
+
+-- a version has the root of a sample exactly where the song has the sample
+pub alike : (p : Placed) (m : Module) (number n : ℕ) → Shows p m
+    → is_some (sample_root_at p number n) ≡ is_some (sample_at m number n)
+alike p m zero n shows = refl
+alike p m (suc k) n shows =
+    elim (cases_lt k (length m.instruments)) [
+      | inl lt ↦
+          let found = id_at p.pool p.root 104 (suc k - 1) in
+          let has = has_instrument p m (suc k) p.root found shows refl (omega arith) (omega arith) refl in
+          elim (cases_lt n (length has.instrument.samples)) [
+            | inl in_it ↦
+                ap is_some (sample_found p m (suc k) found n shows has in_it)
+                ∙ sym (sample_there p m (suc k) found n has in_it)
+            | inr past ↦
+                let absent = sample_absent p m (suc k) found n shows has past in
+                ap is_some absent.0 ∙ sym absent.1
+          ]
+      | inr le ↦
+          let none = nothing p m (suc k) n shows (no_instrument m (suc k) (omega arith)) in
+          ap is_some none.0 ∙ sym none.1
+    ]

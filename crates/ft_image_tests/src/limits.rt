@@ -2,7 +2,7 @@
 
 use crate::placed::image_of;
 use ft_image::{
-    SliceWords, cell, envelope, frame, head, order, rows, sample_head, sample_root, shape,
+    Image, SliceWords, cell, envelope, frame, head, order, rows, sample_head, sample_root, shape,
 };
 use ft_songs::{instrument_with, sample_of, silent_module};
 use ft_types::{
@@ -248,24 +248,25 @@ fn reads_sample(words: &[u64], root: u16, instrument: i16, number: u8) -> bool {
         && frame(&mut view, root, 1) == i16::from(number).saturating_neg()
 }
 
-/// What is read of the words of the full song: their number, and how many groups of readers are
+/// What an image of the full song is: its words, its root, and whether each group of readers is
 /// right.
-fn reads_all(words: &[u64]) -> (usize, bool, bool) {
+fn reads_all(image: &Image) -> (usize, u16, bool, bool) {
+    let words = image.words();
     let song = reads_song(words) && reads_cells(words) && reads_roots(words);
     let parts = reads_instrument(words, 1)
         && reads_instrument(words, 128)
         && reads_sample(words, 8_450, 1, 0)
         && reads_sample(words, 14_718, 0, 15);
-    (words.len(), song, parts)
+    (words.len(), image.root(), song, parts)
 }
 
 #[test]
 fn every_reader_reads_a_song_of_all_limits(rt: HostRuntime) -> Result<(), Fail> {
     let song = full_song(rt.alloc())?;
     let told = match image_of(rt.alloc(), &song) {
-        Some(image) => reads_all(image.words()),
-        None => (0, false, false),
+        Some(image) => reads_all(&image),
+        None => (0, 1, false, false),
     };
-    assert_eq!(rt; told, (14_721 * 256, true, true));
+    assert_eq!(rt; told, (14_721 * 256, 0, true, true));
     Ok(())
 }
