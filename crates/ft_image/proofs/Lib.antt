@@ -1,0 +1,14 @@
+pub mod Lists
+pub mod Packed
+pub mod Walked
+pub mod Found
+pub mod Instruments
+pub mod Samples
+pub mod Sums
+pub mod Walks
+pub mod Laying
+pub mod Stays
+pub mod Roots
+pub mod Whole
+pub mod Kept
+pub mod Counted

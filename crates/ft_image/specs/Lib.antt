@@ -1,0 +1,5 @@
+pub mod Values
+pub mod Shown
+pub mod Read
+pub mod Laid
+pub mod Laws

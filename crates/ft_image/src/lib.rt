@@ -1,0 +1,28 @@
+//! A song in words, and its readers.
+#![tactic(auto)]
+
+mod digits;
+mod filling;
+mod ids;
+mod image;
+mod instrument_placing;
+mod instrument_reading;
+mod laws;
+mod pattern_placing;
+mod pattern_reading;
+mod sample_placing;
+mod sample_reading;
+mod slice;
+mod song_placing;
+mod song_reading;
+mod values;
+mod view;
+
+pub use image::{Image, place};
+pub use instrument_reading::{envelope, sample_root, shape};
+pub use laws::{shown_has_blocks, shown_stays, walk_is_there};
+pub use pattern_reading::{cell, rows};
+pub use sample_reading::{frame, sample_head};
+pub use slice::SliceWords;
+pub use song_reading::{head, order};
+pub use view::WordView;
