@@ -26,7 +26,7 @@ fn look_often<L: Ledger>(
     rounds: u32,
     steps: &mut Steps<L>,
 )
-    requires { reader.old.origin ≡ shared.now }
+    requires { reader.old.register ≡ shared.now }
 {
     for _ in 0..rounds {
         shared.look(reader, steps);
@@ -35,10 +35,10 @@ fn look_often<L: Ledger>(
 
 /// A whole scan at 8 readers, and the publish after it.
 fn publish_next(shared: &Shared, writer: &mut WriterPass) -> u32
-    requires same { writer.old.origin ≡ shared.now }
+    requires same { writer.old.register ≡ shared.now }
     requires readers { shared.now.sizes.readers ≡ 8 }
     requires room { writer.old.account.version < 4294967295 }
-    ensures same { writer.new.origin ≡ writer.old.origin }
+    ensures same { writer.new.register ≡ writer.old.register }
     ensures version { (result ≡ writer.old.account.version + 1)
         × (writer.new.account.version ≡ result) }
 {
@@ -51,7 +51,7 @@ fn publish_next(shared: &Shared, writer: &mut WriterPass) -> u32
 
 /// N scans and publishes.
 fn publish_often(shared: &Shared, writer: &mut WriterPass, rounds: u32)
-    requires same { writer.old.origin ≡ shared.now }
+    requires same { writer.old.register ≡ shared.now }
     requires readers { shared.now.sizes.readers ≡ 8 }
     requires first { writer.old.account.version ≡ 0 }
     requires few { rounds ≤ 1000000 }
@@ -68,12 +68,12 @@ fn turn_once<L: Ledger>(
     reader: &mut ReaderPass,
     steps: &mut Steps<L>,
 ) -> bool
-    requires same { (writer.old.origin ≡ shared.now) × (reader.old.origin ≡ shared.now) }
+    requires same { (writer.old.register ≡ shared.now) × (reader.old.register ≡ shared.now) }
     requires readers { shared.now.sizes.readers ≡ 8 }
     requires room { writer.old.account.version < 4294967295 }
     requires free { reader.old.notes.held ≡ None }
-    ensures same { (writer.new.origin ≡ writer.old.origin)
-        × (reader.new.origin ≡ reader.old.origin) }
+    ensures same { (writer.new.register ≡ writer.old.register)
+        × (reader.new.register ≡ reader.old.register) }
     ensures version { writer.new.account.version ≡ writer.old.account.version + 1 }
     ensures free { IsTrue result → reader.new.notes.held ≡ None }
 {
@@ -94,7 +94,7 @@ fn turn_often<L: Ledger>(
     rounds: u32,
     steps: &mut Steps<L>,
 )
-    requires same { (writer.old.origin ≡ shared.now) × (reader.old.origin ≡ shared.now) }
+    requires same { (writer.old.register ≡ shared.now) × (reader.old.register ≡ shared.now) }
     requires readers { shared.now.sizes.readers ≡ 8 }
     requires first { writer.old.account.version ≡ 0 }
     requires free { reader.old.notes.held ≡ None }

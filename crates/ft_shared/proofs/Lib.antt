@@ -3,3 +3,4 @@ pub mod Readers
 pub mod Writes
 pub mod Publish
 pub mod Opens
+mod Segments

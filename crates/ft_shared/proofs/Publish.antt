@@ -1,15 +1,17 @@
 -- The two steps of a publish keep the rule, and a whole scan leaves a free slot.
-use Rattle.std.proofs.Common.{zero, suc, Bool, true, false, ltb, eqb, eq-eqb, ne_eqb, ◌≡◌, ◌≢◌, ◌⊎◌, inl, inr, ℕ, ◌+◌, ◌*◌, ◌<◌, ◌≤◌, List, [], ◌∷◌, ◌++◌, length, get_or, set, sym, refl, ap, ◌∙◌, subst, ⊎_elim, arith, Option, Some, slice_index_or, length-set, length-append, get_or-set_other, get_or-set_same}
+use Rattle.std.proofs.Common.{zero, suc, Bool, true, false, ltb, eqb, eq-eqb, ne_eqb, ◌≡◌, ◌≢◌, ◌⊎◌, inl, inr, ℕ, ◌+◌, ◌*◌, ◌<◌, ◌≤◌, List, [], ◌∷◌, ◌++◌, length, get_or, set, sym, refl, ap, ◌∙◌, subst, ⊎_elim, arith, cond, Option, Some, None, IsSomeAnd, slice_index_or, length-set, length-append, get_or-set_other, get_or-set_same}
 use mathlib.Core.Option.{none, some, some-injective, some-ne-none}
 use mathlib.Core.Logic.{dite}
 use native.Mathlib.Decide.{ℕ_discrete}
 use lib.ListN.{get_elem?}
 use Rattle.atomic_table.specs.Table.{step, keeps, Allows}
-use Rattle.atomic_table.proofs.Lists.{at_set, at_longer, at_last}
+use Rattle.atomic_table.proofs.Lists.{at_set}
+use Rattle.ft_segments.specs.Packing.{word_at}
 use Rattle.ft_shared.specs.declared.law.Sizes.{Sizes}
 use Rattle.ft_shared.specs.declared.law.Opening.{Opening}
 use Rattle.ft_shared.specs.declared.law.PlacedVersion.{PlacedVersion}
 use Rattle.ft_shared.specs.declared.law.TakenVersion.{TakenVersion}
+use Rattle.ft_shared.specs.declared.law.WordRead.{WordRead}
 use Rattle.ft_shared.specs.declared.law.Hold.{Hold}
 use Rattle.ft_shared.specs.declared.law.Slot.{Slot}
 use Rattle.ft_shared.specs.declared.law.Account.{Account}
@@ -17,12 +19,13 @@ use Rattle.ft_shared.specs.declared.law.View.{View}
 use Rattle.ft_shared.specs.declared.law.View.TheVariants.{Spent, Reader, Writer}
 use Rattle.ft_shared.specs.Layout.{current_word, slot_in, root_in, count_in}
 use Rattle.ft_shared.specs.Counts.{bit, sum_below, pass_sum, one, has_number, grip, grip_of, holders}
-use Rattle.ft_shared.specs.History.{Agrees, IsHistory}
+use Rattle.ft_shared.specs.History.{placed_at, IsReadable, Agrees, IsHistory}
 use Rattle.ft_shared.specs.Account.{slot_at, no_slot, account_of, after_clear, after_publish}
 use Rattle.ft_shared.specs.Register.{TableState, SeatView, Stands, Fits, amount, scan_count, marks, RegisterRule}
 use Rattle.ft_shared.specs.Plays.{IsClear, IsPublish}
 use Rattle.ft_shared.proofs.Sums.{at-le, index-le, set-keeps, slot-of, root-of, count-of, amount-le, sum_below-le, all-but-one}
-use Rattle.ft_shared.proofs.Readers.{count-le, word-there}
+use Rattle.ft_shared.proofs.Segments.{is_there, some_is, placed_grows, placed_new, still_there, segments_still, segments_seat, segments_published}
+use Rattle.ft_shared.proofs.Readers.{count-le, word-there, stands_behind}
 use Rattle.ft_shared.proofs.Writes.{stands_still, seats_still, sum_still, true-false}
 
 module _ (key : Opening) where
@@ -71,6 +74,8 @@ module _ (key : Opening) where
         numbers = λ n. sum_still key state id a b at refl (has_number n) ∙ rule.numbers n;
         unpinned = λ i l. get_or-set_other state.words (k + 1) (key.sizes.readers + 3 + i) 0 0 (omega arith) ∙ rule.unpinned i l;
         stored = (rule.stored.0, λ i. let p : ℕ = key.sizes.readers * key.sizes.channels in get_or-set_other state.words (k + 1) (key.sizes.readers + 3 + p + i) 0 0 (omega arith) ∙ rule.stored.1 i);
+        segments = segments_seat key.sizes state.views a b id at refl
+            (segments_still key.sizes state.views a b refl refl refl refl versions (λ j l. rule.segments.answers j l ∙ (λ i. cond (sym (frees j) i) None (Some (sym (versions j) i)))) rule.segments);
         settled = λ i x e. stands_still key a b (slice_index_or a.settled i x) refl versions refl (rule.settled i x e);
         each_seat = seats_still key state rule id writes b refl versions refl;
       }
@@ -100,6 +105,15 @@ module _ (key : Opening) where
   at_end (x ∷ xs) a b zero e = inl e
   at_end (x ∷ xs) a b (suc j) e = ⊎_elim (λ (t : get_elem? xs j ≡ some b). inl t) (λ (t : (j ≡ length xs) × (a ≡ b)). inr (ap suc t.0, t.1)) (at_end xs a b j e)
 
+  at_below : {A : Type 0} (l : List A) (n : ℕ) (x : A) → get_elem? l n ≡ some x → n < length l
+  at_below [] n x e = absurd (some-ne-none x (sym e))
+  at_below (y ∷ l) zero x e = omega arith
+  at_below (y ∷ l) (suc n) x e = let r = at_below l n x e in omega arith
+
+  -- no version of the history has the next number
+  unplaced : (h : List PlacedVersion) (first last root : ℕ) → IsHistory h first last root → (n : ℕ) (x : PlacedVersion) → get_elem? h n ≡ some x → x.version ≢ last + 1
+  unplaced h first last root is n x at same = let c = is.count in let v = is.versions n x at in let l = at_below h n x at in omega arith
+
   -- the history grows by the next version
   history_next : (h : List PlacedVersion) (first last root next : ℕ) (pool : List ℕ) → IsHistory h first last root → IsHistory (h ++ record { version = last + 1; root = next; pool = pool } ∷ []) first (last + 1) next
   history_next h first last root next pool is =
@@ -109,14 +123,15 @@ module _ (key : Opening) where
         count = let n = length-append h (p ∷ []) in omega arith;
         versions = λ n x e. ⊎_elim (λ (t : get_elem? h n ≡ some x). is.versions n x t)
             (λ (t : (n ≡ length h) × (p ≡ x)). let v : last + 1 ≡ x.version = ap (λ (z : PlacedVersion). z.version) t.1 in let m = t.0 in omega arith) (at_end h p x n e);
-        latest = (length h, p, count, at_last h p (length h) refl, refl, refl);
+        latest = subst (λ (o : Option PlacedVersion). IsSomeAnd o (λ placed. placed.root ≡ next)) (sym (placed_new h p (λ n x e. unplaced h first last root is n x e))) refl;
       }
 
   agrees_longer : (h : List PlacedVersion) (p : PlacedVersion) (g : Hold) → Agrees h g.notes → Agrees (h ++ p ∷ []) g.notes
   agrees_longer h p g a = record {
-    looks = λ i x l. let b = a.looks i x l in (b.0, b.1, at_longer h (p ∷ []) b.0 b.1 b.2, b.3);
-    takes = λ i x l. let b = a.takes i x l in (b.0, b.1, at_longer h (p ∷ []) b.0 b.1 b.2, b.3, b.4);
-    held = λ t e. let b = a.held t e in (b.0, b.1, at_longer h (p ∷ []) b.0 b.1 b.2, b.3, b.4);
+    looks = λ i x l. let v = a.looks i x l in ap is_there (placed_grows h p (get_or g.notes.looks i x) v) ∙ v;
+    takes = λ i x l. let t : TakenVersion = get_or g.notes.takes i x in still_there h p t.version (λ placed. placed.root ≡ t.root) (a.takes i x l);
+    held = λ t e. still_there h p t.version (λ placed. placed.root ≡ t.root) (a.held t e);
+    reads = λ i x l. let r : WordRead = get_or g.notes.reads i x in still_there h p r.version (λ placed. IsReadable placed r.pin r.segment → word_at placed.pool r.segment r.at ≡ r.word) (a.reads i x l);
   }
 
   -- the slots after a publish: the chosen one, and the others
@@ -218,6 +233,9 @@ module _ (key : Opening) where
         numbers = λ m. sum_still key state id a b at refl (has_number m) ∙ rule.numbers m;
         unpinned = λ i l. get_or-set_other state.words 0 (key.sizes.readers + 3 + i) new 0 (omega arith) ∙ rule.unpinned i l;
         stored = (rule.stored.0, λ i. let p : ℕ = key.sizes.readers * key.sizes.channels in get_or-set_other state.words 0 (key.sizes.readers + 3 + p + i) new 0 (omega arith) ∙ rule.stored.1 i);
+        segments = segments_seat key.sizes state.views a b id at refl
+            (segments_published key.sizes state.views a k root n (unplaced a.history key.version a.version a.root rule.history) (version-else a k root n) (ap (λ (z : Slot). z.version) is)
+            (λ seat view hold there behind t e. some_is (placed_at a.history t.version) (λ placed. placed.root ≡ t.root) ((stands_behind key state rule seat view hold there behind).agrees.held t e)) rule.segments);
         settled = λ i x e. stands_next a k root n (slice_index_or a.settled i x)
             (let y = unheld state rule k free id (Writer a) at in let z = index-le (grip_of k) a.settled i x e in omega arith) (rule.settled i x e);
         each_seat = λ j v e. ⊎_elim (λ (t : (j ≡ id) × (Writer b ≡ v)). subst (Fits key b rule.writer j) t.1 (refl, t.0 ∙ writes))

@@ -1,6 +1,7 @@
 -- A reader's steps keep the rule.
 use Rattle.std.proofs.Common.{true, ltb, false-eqb, ◌≡◌, ◌≢◌, ℕ, ◌+◌, ◌*◌, ◌%◌, ◌^◌, ◌<◌, ◌≤◌, eqb, List, [], ◌∷◌, length, get_or, set, sym, refl, ap, ◌∙◌, subst, ⊎_elim, arith, Option, Some, None, IsSomeAnd, length-set, get_or-set_other, get_or-set_same, eq-eqb, ne_eqb}
-use Rattle.std.proofs.lemmas.List.Elements.{All-append}
+use Rattle.std.proofs.lemmas.List.Elements.{All-append, All-contains}
+use Rattle.std.specs.List.{Contains}
 use mathlib.Core.Option.{none, some}
 use mathlib.Core.Logic.{dite}
 use native.Mathlib.Decide.{ℕ_discrete}
@@ -13,14 +14,16 @@ use Rattle.ft_shared.specs.declared.law.TakenVersion.{TakenVersion}
 use Rattle.ft_shared.specs.declared.law.Hold.{Hold}
 use Rattle.ft_shared.specs.declared.law.Account.{Account}
 use Rattle.ft_shared.specs.declared.law.View.{View}
-use Rattle.ft_shared.specs.declared.law.View.TheVariants.{Reader}
+use Rattle.ft_shared.specs.declared.law.View.TheVariants.{Spent, Reader, Writer}
 use Rattle.ft_shared.specs.Layout.{current_word, version_in, slot_in, root_in}
-use Rattle.ft_shared.specs.Counts.{bit, sum_below, pass_sum, one, has_number, grip, grip_of, holders}
-use Rattle.ft_shared.specs.History.{HasVersion, HasTakenVersion}
+use Rattle.ft_shared.specs.Counts.{bit, sum_below, pass_sum, one, has_number, grip, grip_of, holders, IsBehind}
+use Rattle.ft_shared.specs.History.{placed_at, HasVersion, HasTakenVersion}
 use Rattle.ft_shared.specs.Account.{slot_at, hold_of}
+use Rattle.ft_shared.specs.Segments.{IsUnwritten, IsKept}
 use Rattle.ft_shared.specs.Register.{TableState, SeatView, Stands, Fits, scan_count, RegisterRule}
 use Rattle.ft_shared.specs.Plays.{after_look, after_take, after_leave, IsLook, IsTake, IsLeave}
 use Rattle.ft_shared.proofs.Sums.{total-set, total-le, all_one, passes-le, version-of, slot-of, root-of, amount-le, sum_below-le}
+use Rattle.ft_shared.proofs.Segments.{some_is, segments_reader}
 
 none_some : {A : Type 0} (x : A) → None ≡ Some x → ⊥
 none_some x e = cc
@@ -43,6 +46,14 @@ module _ (key : Opening) where
   pub root-now : (state : TableState) (rule : RegisterRule key state) → root_in (get_or state.words 0 0) ≡ rule.account.root
   root-now state rule = let a = count-le state rule rule.account.slot in let f = rule.few in let z = rule.ranges in ap root_in rule.current ∙ root-of rule.account.version rule.account.slot rule.account.root (holders rule.account.slot state.views) (omega arith) z.1 (omega arith)
 
+  -- a pass behind a seat stands
+  pub stands_behind : (state : TableState) (rule : RegisterRule key state) (seat : ℕ) (view : View) (hold : Hold) → get_elem? state.views seat ≡ some view → IsBehind view hold → Stands key rule.account hold
+  stands_behind state rule seat Spent hold at behind = absurd behind
+  stands_behind state rule seat (Reader other) hold at behind = subst (Stands key rule.account) behind (rule.each_seat seat (Reader other) at)
+  stands_behind state rule seat (Writer e) hold at behind =
+      All-contains (Stands key rule.account) rule.account.settled hold rule.settled
+      (subst (λ (a : Account). Contains a.settled hold) (rule.each_seat seat (Writer e) at).0 behind)
+
   -- what a scan counts does not grow where no slot but the current one has more holders
   pub fewer : (state : TableState) (rule : RegisterRule key state) (views : List View) → ((k : ℕ) → k ≢ rule.account.slot → holders k views ≤ holders k state.views)
       → rule.account.begun ≡ true → sum_below (scan_count rule.account views) (key.sizes.readers + 2) ≤ key.sizes.readers
@@ -52,14 +63,14 @@ module _ (key : Opening) where
 
   -- the reader at the seat id goes from h to h', and the words become ws
   reader_step : (state : TableState) (rule : RegisterRule key state) (id : ℕ) (h h' : Hold) (words : List ℕ) → get_elem? state.views id ≡ some (Reader h) → length words ≡ length state.words
-      → h'.notes.number ≡ h.notes.number → Stands key rule.account h'
+      → h'.notes.number ≡ h.notes.number → Stands key rule.account h' → IsKept rule.account h'
       → ((i : ℕ) → key.sizes.readers + 3 ≤ i → get_or words i 0 ≡ get_or state.words i 0)
       → get_or words 0 0 ≡ current_word rule.account.version rule.account.slot rule.account.root (holders rule.account.slot (set state.views id (Reader h')))
       → get_or words (rule.account.slot + 1) 0 ≡ 0
       → ((k : ℕ) → k < key.sizes.readers + 2 → k ≢ rule.account.slot → (slot_at rule.account k).start ≡ get_or words (k + 1) 0 + holders k (set state.views id (Reader h')))
       → ((k : ℕ) → k ≢ rule.account.slot → holders k (set state.views id (Reader h')) ≤ holders k state.views)
       → RegisterRule key record { words = words; homes = state.homes; views = set state.views id (Reader h') }
-  reader_step state rule id h h' words at wide number stands beyond current fresh leavers less = record {
+  reader_step state rule id h h' words at wide number stands kept beyond current fresh leavers less = record {
     writer = rule.writer;
     account = rule.account;
     few = rule.few;
@@ -79,6 +90,7 @@ module _ (key : Opening) where
     numbers = λ n. let e = total-set (pass_sum (has_number n)) state.views id (Reader h) (Reader h') at in let m : has_number n h' ≡ has_number n h = ap (λ (k : ℕ). bit (eqb k n)) number in let b = rule.numbers n in omega arith;
     unpinned = λ i l. beyond (key.sizes.readers + 3 + i) (omega arith) ∙ rule.unpinned i l;
     stored = (rule.stored.0, λ i. let p : ℕ = key.sizes.readers * key.sizes.channels in beyond (key.sizes.readers + 3 + p + i) (omega arith) ∙ rule.stored.1 i);
+    segments = segments_reader key.sizes state.views rule.account id h' kept rule.segments;
     settled = rule.settled;
     each_seat = λ j v e. ⊎_elim (λ (t : (j ≡ id) × (Reader h' ≡ v)). subst (Fits key rule.account rule.writer j) t.1 stands)
         (λ (t : (j ≢ id) × (get_elem? state.views j ≡ some v)). rule.each_seat j v t.1) (at_set state.views id j (Reader h') v e);
@@ -106,11 +118,13 @@ module _ (key : Opening) where
               recent = λ (v : ℕ) e. let is_v : version_in w ≡ v = cc in omega arith;
               borne = mine.borne;
               agrees = record {
-                looks = All-append (HasVersion a.history) h.notes.looks (version_in w ∷ []) mine.agrees.looks (all_one (HasVersion a.history) (version_in w) (last.0, last.1, last.3, last.4 ∙ sym now));
+                looks = All-append (HasVersion a.history) h.notes.looks (version_in w ∷ []) mine.agrees.looks (all_one (HasVersion a.history) (version_in w) (subst (HasVersion a.history) (sym now) (some_is (placed_at a.history a.version) (λ placed. placed.root ≡ a.root) last)));
                 takes = mine.agrees.takes;
                 held = mine.agrees.held;
+                reads = mine.agrees.reads;
               };
             })
+            (record { held = (rule.segments.kept id (Reader h) h at' refl).held })
             (λ i l. refl)
             (rule.current ∙ ap (current_word a.version a.slot a.root) (sym (same a.slot))) rule.fresh
             (λ k l ne. rule.leavers k l ne ∙ ap (λ (n : ℕ). get_or state.words (k + 1) 0 + n) (sym (same k)))
@@ -143,7 +157,7 @@ module _ (key : Opening) where
       let next : (w + 1) % 2 ^ 64 ≡ current_word a.version a.slot a.root (holders a.slot views) = omega arith in
       let last = rule.history.latest in
       let t : TakenVersion = record { version = version_in w; root = root_in w } in
-      let had : HasTakenVersion a.history t = (last.0, last.1, last.3, last.4 ∙ sym now, last.5 ∙ sym root) in
+      let had : HasTakenVersion a.history t = subst (λ (z : ℕ × ℕ). HasTakenVersion a.history (record { version = z.0; root = z.1 })) (λ i. (sym now i, sym root i)) last in
       let bears : (slot_at a (slot_in w)).version ≡ version_in w = ap (λ (k : ℕ). (slot_at a k).version) there ∙ (rule.bears ∙ sym now) in (
         Reader h',
         keeps,
@@ -158,8 +172,10 @@ module _ (key : Opening) where
                 looks = mine.agrees.looks;
                 takes = All-append (HasTakenVersion a.history) h.notes.takes (t ∷ []) mine.agrees.takes (all_one (HasTakenVersion a.history) t had);
                 held = λ (g : TakenVersion) e. let same : t ≡ g = cc in subst (HasTakenVersion a.history) same had;
+                reads = mine.agrees.reads;
               };
             })
+            (record { held = λ (g : TakenVersion) e. let same : t ≡ g = cc in subst (λ (z : TakenVersion). IsUnwritten a z.version) same (subst (IsUnwritten a) (sym now) rule.segments.current) })
             (λ i l. get_or-set_other state.words 0 i ((w + 1) % 2 ^ 64) 0 (omega arith))
             (get_or-set_same state.words 0 ((w + 1) % 2 ^ 64) 0 (word-there state rule 0 (omega arith)) ∙ next)
             (get_or-set_other state.words 0 (a.slot + 1) ((w + 1) % 2 ^ 64) 0 (omega arith) ∙ rule.fresh)
@@ -201,8 +217,9 @@ module _ (key : Opening) where
               past = mine.past;
               recent = mine.recent;
               borne = λ (g : TakenVersion) e. absurd (none_some g e);
-              agrees = record { looks = mine.agrees.looks; takes = mine.agrees.takes; held = λ (g : TakenVersion) e. absurd (none_some g e) };
+              agrees = record { looks = mine.agrees.looks; takes = mine.agrees.takes; held = λ (g : TakenVersion) e. absurd (none_some g e); reads = mine.agrees.reads };
             })
+            (record { held = λ (g : TakenVersion) e. absurd (none_some g e) })
             (λ i l. get_or-set_other state.words (h.slot + 1) i ((w + 1) % 2 ^ 64) 0 (omega arith))
             (get_or-set_other state.words (h.slot + 1) 0 ((w + 1) % 2 ^ 64) 0 (omega arith) ∙ (rule.current ∙ ap (current_word a.version a.slot a.root) (sym (else a.slot (λ e. apart (sym e))))))
             (get_or-set_other state.words (h.slot + 1) (a.slot + 1) ((w + 1) % 2 ^ 64) 0 (λ e. apart (omega arith)) ∙ rule.fresh)

@@ -1,5 +1,6 @@
 -- The writer's steps keep the rule.
 use Rattle.std.proofs.Common.{zero, suc, Bool, true, false, cond, ltb, eqb, false-eqb, true-eqb, lt-ltb, le-ltb, eq-eqb, ◌==◌, ◌≡◌, ◌≢◌, ℕ, ◌+◌, ◌<◌, ◌≤◌, List, [], ◌∷◌, ◌++◌, length, get_or, set, sym, refl, ap, ◌∙◌, subst, ⊎_elim, arith, Some, None, All, slice_index_or, length-set, length-append, get_or-set_other, get_or-set_same}
+use Rattle.std.proofs.lemmas.List.{get_or_append_left, get_or_push}
 use mathlib.Core.Option.{none, some}
 use mathlib.Core.Logic.{dite}
 use native.Mathlib.Decide.{ℕ_discrete}
@@ -18,11 +19,13 @@ use Rattle.ft_shared.specs.declared.law.View.{View}
 use Rattle.ft_shared.specs.declared.law.View.TheVariants.{Spent, Reader, Writer}
 use Rattle.ft_shared.specs.Layout.{current_word}
 use Rattle.ft_shared.specs.Counts.{total, sum_below, pass_sum, one, has_number, grip_of, holders}
-use Rattle.ft_shared.specs.History.{HasVersion, HasTakenVersion, Agrees}
+use Rattle.ft_shared.specs.History.{HasVersion, HasTakenVersion, HasRead, Agrees}
 use Rattle.ft_shared.specs.Account.{slot_at, no_slot, account_of, new_notes, is_free, answer_of, after_begin, after_scan}
+use Rattle.ft_shared.specs.Segments.{slot_answer}
 use Rattle.ft_shared.specs.Register.{TableState, SeatView, Stands, Fits, amount, scan_count, marks, RegisterRule}
 use Rattle.ft_shared.specs.Plays.{after_give, given_pass, IsScanBegin, IsSlotScan}
 use Rattle.ft_shared.proofs.Sums.{total-set, total-append, set-keeps, numbers-more, amount-le, amount-new, amount-here, amount-scan, amount-met, ltb-next, sum_below-le, holding-sum_below}
+use Rattle.ft_shared.proofs.Segments.{segments_still, segments_seat, segments_more}
 use Rattle.ft_shared.proofs.Readers.{fewer}
 
 none_some : {A : Type 0} (x : A) → None ≡ Some x → ⊥
@@ -100,6 +103,8 @@ module _ (key : Opening) where
         numbers = λ n. let x = more (has_number n) in let y = rule.numbers n in let z = numbers-more n a.given in omega arith;
         unpinned = rule.unpinned;
         stored = rule.stored;
+        segments = segments_more key.sizes views b h (record { held = λ (g : TakenVersion) e. absurd (none_some g e) })
+            (segments_seat key.sizes state.views a b id at refl (segments_still key.sizes state.views a b refl refl refl refl (λ k. refl) rule.segments.answers rule.segments));
         settled = λ i x e. stands_still a b (slice_index_or a.settled i x) refl (λ k. refl) refl (rule.settled i x e);
         each_seat = λ j v e. ⊎_elim (λ (t : get_elem? views j ≡ some v). seats_still state rule id writes b refl (λ k. refl) refl j v t)
             (λ (t : Reader h ≡ v). subst (Fits key b rule.writer j) t (record {
@@ -107,7 +112,7 @@ module _ (key : Opening) where
               past = omega arith;
               recent = λ (n : ℕ) e. absurd (none_some n e);
               borne = λ (g : TakenVersion) e. absurd (none_some g e);
-              agrees = record { looks = all_none (HasVersion a.history); takes = all_none (HasTakenVersion a.history); held = λ (g : TakenVersion) e. absurd (none_some g e) };
+              agrees = record { looks = all_none (HasVersion a.history); takes = all_none (HasTakenVersion a.history); held = λ (g : TakenVersion) e. absurd (none_some g e); reads = all_none (HasRead a.history) };
             }))
             (at_snoc views (Reader h) v j e);
       }
@@ -129,8 +134,9 @@ module _ (key : Opening) where
       → length b.slots ≡ 10 → ((k : ℕ) → (slot_at b k).version ≡ (slot_at rule.account k).version) → ((k : ℕ) → (slot_at b k).start ≡ (slot_at rule.account k).start)
       → ((k : ℕ) → (slot_at b k).free ≡ true → (k ≢ rule.account.slot) × (holders k state.views ≡ 0))
       → (b.begun ≡ true → sum_below (scan_count b state.views) (key.sizes.readers + 2) ≤ key.sizes.readers)
+      → ((k : ℕ) → k < length b.scan → slice_index_or b.scan k None ≡ slot_answer b k)
       → RegisterRule key record { words = state.words; homes = state.homes; views = set state.views id (Writer b) }
-  scan_at state rule id b at writes is deep versions starts unused told =
+  scan_at state rule id b at writes is deep versions starts unused told answers =
       let a : Account = rule.account in
       let c : Account = record a { slots = b.slots; begun = b.begun; scans = b.scans; scan = b.scan; gone = b.gone; steps = b.steps } in
       subst (λ (z : Account). RegisterRule key record { words = state.words; homes = state.homes; views = set state.views id (Writer z) }) (sym is)
@@ -159,6 +165,7 @@ module _ (key : Opening) where
         numbers = λ n. sum_still state id a c at refl (has_number n) ∙ rule.numbers n;
         unpinned = rule.unpinned;
         stored = rule.stored;
+        segments = segments_seat key.sizes state.views a c id at refl (segments_still key.sizes state.views a c refl refl refl refl versions answers rule.segments);
         settled = λ i x e. stands_still a c (slice_index_or a.settled i x) refl versions refl (rule.settled i x e);
         each_seat = seats_still state rule id writes c refl versions refl;
       })
@@ -180,7 +187,7 @@ module _ (key : Opening) where
         tt,
         subst (λ (words : List ℕ). RegisterRule key record { words = words; homes = state.homes; views = set state.views id (Writer (after_begin e)) }) (sym (set-get_or state.words 0 0))
             (subst (λ (z : Account). get_elem? state.views id ≡ some (Writer z) → RegisterRule key record { words = state.words; homes = state.homes; views = set state.views id (Writer (after_begin z)) }) (sym same.0)
-            (λ t. scan_at state rule id (after_begin rule.account) t same.1 refl rule.deep (λ k. refl) (λ k. refl) rule.unused (λ _. begins_at state rule)) at'),
+            (λ t. scan_at state rule id (after_begin rule.account) t same.1 refl rule.deep (λ k. refl) (λ k. refl) rule.unused (λ _. begins_at state rule) (λ k l. absurd (omega arith))) at'),
         (refl, refl),
       )
 
@@ -264,9 +271,16 @@ module _ (key : Opening) where
       let n : a.sizes.readers ≡ key.sizes.readers = ap (λ (z : Sizes). z.readers) rule.told in
       let did = scans_at state rule (omega arith) begun in
       let flagged : Slot = record (slot_at a next) { free = is_free a next w } in
-      let longer : length b.scan ≡ next + 1 = length-append a.scan (answer_of a next w ∷ []) in (
+      let longer : length b.scan ≡ next + 1 = length-append a.scan (answer_of a next w ∷ []) in
+      let deep = rule.deep in
+      let few = rule.few in
+      let answers : (k : ℕ) → k < length b.scan → slice_index_or b.scan k None ≡ slot_answer b k = λ k l. dite (ℕ_discrete k next)
+      (λ (h : k ≡ next). subst (λ (j : ℕ). slice_index_or b.scan j None ≡ slot_answer b j) (sym h)
+      (get_or_push a.scan (answer_of a next w) None next refl ∙ ap (λ (z : Slot). cond z.free None (Some z.version)) (sym (get_or-set_same a.slots next flagged no_slot (omega arith)))))
+      (λ (h : k ≢ next). get_or_append_left a.scan (answer_of a next w ∷ []) None k (omega arith)
+      ∙ (rule.segments.answers k (omega arith) ∙ ap (λ (z : Slot). cond z.free None (Some z.version)) (sym (get_or-set_other a.slots next k flagged no_slot h)))) in (
         scan_at state rule id b at writes refl (length-set a.slots next flagged ∙ rule.deep)
-            (set-keeps (λ (z : Slot). z.version) a.slots next no_slot flagged refl) (set-keeps (λ (z : Slot). z.start) a.slots next no_slot flagged refl) did.0 (λ _. did.1),
+            (set-keeps (λ (z : Slot). z.version) a.slots next no_slot flagged refl) (set-keeps (λ (z : Slot). z.start) a.slots next no_slot flagged refl) did.0 (λ _. did.1) answers,
         did.2,
         λ whole. subst (λ (m : ℕ). sum_below (marks b) (m + 2) ≤ m) (sym n)
             (let x = did.1 in

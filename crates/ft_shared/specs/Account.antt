@@ -1,5 +1,5 @@
 -- What the writer and the readers know at first, and what the writer's steps make of it.
-use Rattle.std.specs.Prelude.{◌≡◌, ℕ, ◌+◌, ◌-◌, ◌*◌, ◌==◌, slice_set, slice_index_or, Bool, true, false, if◌then◌else◌, List, [], ◌∷◌, ◌++◌, length, drop, replicate, Option, Some, None}
+use Rattle.std.specs.Prelude.{◌≡◌, ◌⊎◌, ℕ, ◌+◌, ◌-◌, ◌*◌, ◌==◌, slice_set, slice_index_or, Bool, true, false, if◌then◌else◌, List, [], ◌∷◌, ◌++◌, length, drop, replicate, Option, Some, None, Contains}
 use Rattle.ft_shared.specs.declared.law.Sizes.{Sizes}
 use Rattle.ft_shared.specs.declared.law.Opening.{Opening}
 use Rattle.ft_shared.specs.declared.law.Notes.{Notes}
@@ -9,7 +9,8 @@ use Rattle.ft_shared.specs.declared.law.Account.{Account}
 use Rattle.ft_shared.specs.declared.law.WordStep.TheVariants.{Load, Store, Swap}
 use Rattle.ft_shared.specs.declared.law.View.{View}
 use Rattle.ft_shared.specs.declared.law.View.TheVariants.{Reader, Writer}
-use Rattle.ft_shared.specs.Layout.{current_at, leavers_at, pool_at}
+use Rattle.ft_shared.specs.Layout.{current_at, leavers_at, pool_at, segment_at}
+use Rattle.ft_shared.specs.History.{IsOfVersion}
 
 -- ---- slots
 
@@ -45,6 +46,7 @@ opening_account sizes version root pool = record {
   settled = [];
   history = record { version = version; root = root; pool = pool } ∷ [];
   pool = pool;
+  filled = replicate sizes.segments version;
   steps = [];
 }
 
@@ -126,6 +128,35 @@ after_scan account gone = record account {
 -- every slot was looked at since a scan began
 abbrev pub IsWhole : Sizes → Account → Type 0
 IsWhole sizes account = (account.begun ≡ true) × (length account.scan ≡ sizes.readers + 2)
+
+-- A scan answered this version
+abbrev pub IsAnswered : Account → ℕ → Type 0
+IsAnswered account version = Contains account.scan (Some version)
+
+-- A scan found the segment: it is one of the current version, or of a version that was answered
+abbrev pub Found : Account → ℕ → Type 0
+Found account segment =
+    IsOfVersion account.history account.version segment
+    ⊎ ((version : ℕ) × IsAnswered account version × IsOfVersion account.history version segment)
+
+-- The pass may fill the segment
+abbrev pub MayFill : Sizes → Account → ℕ → Type 0
+MayFill sizes account segment = IsWhole sizes account × (Found account segment → ⊥)
+
+-- ---- words of the pool
+
+-- a word of a segment was read by one load
+abbrev pub after_read : Account → ℕ → ℕ → Account
+after_read account segment at =
+    record account { steps = account.steps ++ Load (segment_at account.sizes segment at) ∷ [] }
+
+-- a word of a segment was filled for the next version by one store
+abbrev pub after_fill : Account → ℕ → ℕ → ℕ → Account
+after_fill account segment at word = record account {
+  pool = slice_set account.pool (segment * 256 + at) word;
+  filled = slice_set account.filled segment (account.version + 1);
+  steps = account.steps ++ Store (segment_at account.sizes segment at) ∷ [];
+}
 
 -- ---- a publish
 

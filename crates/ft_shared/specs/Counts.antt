@@ -1,5 +1,5 @@
 -- Counts over the passes: those of readers that have a seat, and those that the writer's seat took in.
-use Rattle.std.specs.Prelude.{ℕ, zero, suc, ◌+◌, ◌==◌, Bool, if◌then◌else◌, List, [], ◌∷◌, Option, Some, None}
+use Rattle.std.specs.Prelude.{◌≡◌, Contains, ℕ, zero, suc, ◌+◌, ◌==◌, Bool, if◌then◌else◌, List, [], ◌∷◌, Option, Some, None}
 use Rattle.ft_shared.specs.declared.law.TakenVersion.{TakenVersion}
 use Rattle.ft_shared.specs.declared.law.Hold.{Hold}
 use Rattle.ft_shared.specs.declared.law.View.{View}
@@ -23,6 +23,12 @@ abbrev pub pass_sum : (Hold → ℕ) → View → ℕ
 pass_sum amount Spent = 0
 pass_sum amount (Reader hold) = amount hold
 pass_sum amount (Writer account) = total amount account.settled
+
+-- The pass is behind the seat: the writer's has the settled ones
+abbrev pub IsBehind : View → Hold → Type 0
+IsBehind Spent hold = ⊥
+IsBehind (Reader other) hold = other ≡ hold
+IsBehind (Writer account) hold = Contains account.settled hold
 
 -- each pass counts 1
 abbrev pub one : Hold → ℕ

@@ -18,6 +18,10 @@ pins_at sizes = sizes.readers + 3
 abbrev pub pool_at : Sizes → ℕ
 pool_at sizes = sizes.readers + 3 + sizes.readers * sizes.channels
 
+-- a word of a segment by its place, 0 to 255
+abbrev pub segment_at : Sizes → ℕ → ℕ → ℕ
+segment_at sizes segment at = pool_at sizes + (segment * 256 + at)
+
 abbrev pub word_count : Sizes → ℕ
 word_count sizes = pool_at sizes + 256 * sizes.segments
 

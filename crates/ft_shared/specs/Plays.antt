@@ -6,11 +6,12 @@ use Rattle.ft_shared.specs.declared.law.Opening.{Opening}
 use Rattle.ft_shared.specs.declared.law.Hold.{Hold}
 use Rattle.ft_shared.specs.declared.law.View.{View}
 use Rattle.ft_shared.specs.declared.law.View.TheVariants.{Spent, Reader, Writer}
-use Rattle.ft_shared.specs.Layout.{current_at, leavers_at, version_in, slot_in, root_in, count_in}
+use Rattle.ft_segments.specs.Packing.{word_at}
+use Rattle.ft_shared.specs.Layout.{current_at, leavers_at, segment_at, version_in, slot_in, root_in, count_in}
 use Rattle.ft_shared.specs.Counts.{sum_below}
-use Rattle.ft_shared.specs.Account.{hold_of, account_of, slot_at, next_slot, is_free, new_notes, after_begin, after_scan, after_clear, after_publish}
+use Rattle.ft_shared.specs.Account.{hold_of, account_of, slot_at, next_slot, is_free, new_notes, after_begin, after_scan, after_read, after_fill, after_clear, after_publish}
 use Rattle.ft_shared.specs.Register.{SeatView, RegisterRule, marks}
-use Rattle.ft_shared.specs.Pass.{note_look, note_take, note_leave}
+use Rattle.ft_shared.specs.Pass.{note_look, note_take, note_leave, note_word}
 
 -- what a kind of step says of itself, the seat before, the number found and the seat after
 abbrev pub StepKind : Type 1
@@ -56,6 +57,14 @@ IsLeave step before found after =
     (after ≡ (Reader (after_leave (hold_of before.0)), before.1))
     × (step.word ≡ leavers_at (hold_of before.0).slot)
 
+abbrev pub after_word : Hold → ℕ → ℕ → ℕ → Hold
+after_word hold segment at word = record hold { notes = note_word hold.notes segment at word }
+
+abbrev pub IsWordRead : StepKind
+IsWordRead step before found after = (segment at : ℕ) → at < 256
+    → step.word ≡ segment_at (hold_of before.0).notes.sizes segment at
+    → after ≡ (Reader (after_word (hold_of before.0) segment at found), before.1)
+
 -- ---- the writer's steps
 
 abbrev pub IsScanBegin : StepKind
@@ -86,6 +95,18 @@ IsPublish step before found after =
     (after ≡ (Writer (after_publish (account_of before.0) (slot_in step.first) (root_in step.first) (count_in found)), before.1))
     × (count_in found ≤ (account_of before.0).sizes.readers)
     × (step.word ≡ current_at)
+
+-- the word that was found is the one last written there
+abbrev pub IsPoolRead : StepKind
+IsPoolRead step before found after = (segment at : ℕ) → at < 256
+    → step.word ≡ segment_at (account_of before.0).sizes segment at
+    → (after ≡ (Writer (after_read (account_of before.0) segment at), before.1))
+    × (found ≡ word_at (account_of before.0).pool segment at)
+
+abbrev pub IsFill : StepKind
+IsFill step before found after = (segment at : ℕ) → at < 256
+    → step.word ≡ segment_at (account_of before.0).sizes segment at
+    → after ≡ (Writer (after_fill (account_of before.0) segment at step.first), before.1)
 
 -- ---- a seat for a reader
 

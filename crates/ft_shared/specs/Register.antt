@@ -13,6 +13,7 @@ use Rattle.ft_shared.specs.Layout.{current_at, current_word, leavers_at, pins_at
 use Rattle.ft_shared.specs.Counts.{bit, total, sum_below, pass_sum, one, has_number, holders}
 use Rattle.ft_shared.specs.History.{Agrees, IsHistory}
 use Rattle.ft_shared.specs.Account.{slot_at, next_slot}
+use Rattle.ft_shared.specs.Segments.{SegmentRule}
 
 -- the words, and the view of each seat
 abbrev pub TableState : Type 0
@@ -86,6 +87,7 @@ pub record RegisterRule (key : Opening) (state : TableState) : Type 0 where
       → slice_index state.words (pins_at key.sizes + pin) ≡ 0
   pub stored : (length account.pool ≡ 256 * key.sizes.segments)
       × ((n : ℕ) → slice_index state.words (pool_at key.sizes + n) ≡ slice_index account.pool n)
+  pub segments : SegmentRule key.sizes state.views account
   pub settled : All (Stands key account) account.settled
   pub each_seat : (seat : ℕ) (view : View) → get_elem? state.views seat ≡ some view
       → Fits key account writer seat view

@@ -22,8 +22,11 @@ pub struct Sizes {
 #[derive(Drop)]
 pub(crate) struct Opening {
     pub sizes: Sizes,
+    /// The number of the first version, 0 to 2^32 - 1.
     pub version: u64,
+    /// The number of its root segment, 0 to 65,535.
     pub root: u64,
+    /// The words of the whole table.
     pub words: Snapshot<Vec<u64>>,
 }
 
@@ -109,16 +112,20 @@ pub struct Account {
     pub sizes: Sizes,
     /// How many readers' passes were made, 0 to 8.
     pub given: u64,
-    /// The current version, its slot and its root segment.
+    /// The number of the current version, 0 to 2^32 - 1.
     pub version: u64,
+    /// Its slot, 0 to 9.
     pub slot: u64,
+    /// The number of its root segment, 0 to 65,535.
     pub root: u64,
     /// What it knows of each of ten slots, of which readers + 2 are used.
     pub slots: [Slot; 0],
-    /// Whether a scan has begun since the last publish, how many were begun in all,
-    /// and the answers of this one: for each slot a version, or none where it was free.
+    /// Whether a scan has begun since the last publish.
     pub begun: bool,
+    /// How many scans were begun in all.
     pub scans: u64,
+    /// What this scan answered of the slots so far, slot 0 first: the number of a version,
+    /// or none where the slot was free.
     pub scan: [Option<u64>; 0],
     /// The leavers that the latest step of a scan has loaded, 0 to 8.
     pub gone: u64,
@@ -128,6 +135,8 @@ pub struct Account {
     pub history: [PlacedVersion; 0],
     /// The words of the pool as they were last written, 256 for each segment.
     pub pool: [u64; 0],
+    /// For each segment the version for which it was last filled, 0 to 2^32.
+    pub filled: [u64; 0],
     /// The atomic steps that the pass made, in their order.
     pub steps: [WordStep; 0],
 }

@@ -52,7 +52,7 @@ impl ReaderPass {
 impl Shared {
     /// The current version. One load.
     pub fn look<L: Ledger>(&self, pass: &mut ReaderPass, steps: &mut Steps<L>) -> u32
-        requires same { pass.old.origin ≡ self.now }
+        requires same { pass.old.register ≡ self.now }
         ensures noted { pass.new ≡ record pass.old { notes = note_look pass.old.notes result } }
         ensures later { pass.old.notes.seen ≤ result }
         ensures steps { steps.new ≡ steps.old + 1 }
@@ -64,7 +64,7 @@ impl Shared {
     /// The current version with its root, which the pass holds from now on. One
     /// `fetch_add`.
     pub fn take<L: Ledger>(&self, pass: &mut ReaderPass, steps: &mut Steps<L>) -> Held
-        requires same { pass.old.origin ≡ self.now }
+        requires same { pass.old.register ≡ self.now }
         requires free { pass.old.notes.held ≡ None }
         ensures noted { pass.new ≡ record pass.old {
           notes = note_take pass.old.notes
@@ -87,7 +87,7 @@ impl Shared {
     /// Gives up the version that the pass holds. Its latest look since the take must have
     /// given a greater one. One `fetch_add`.
     pub fn leave<L: Ledger>(&self, pass: &mut ReaderPass, steps: &mut Steps<L>)
-        requires same { pass.old.origin ≡ self.now }
+        requires same { pass.old.register ≡ self.now }
         requires newer { IsSomeAnd pass.old.notes.held
             (λ taken. IsSomeAnd pass.old.notes.latest (λ version. taken.version < version)) }
         ensures noted { pass.new

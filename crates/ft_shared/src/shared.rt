@@ -15,9 +15,9 @@ pub struct Shared {
 impl Model for Shared {
     ghost use Rattle.std.specs.Prelude.{◌≡◌};
     ghost use Rattle.ft_shared.specs.Layout.{word_count};
-    ghost use Rattle.ft_shared.specs.Pass.{Origin};
+    ghost use Rattle.ft_shared.specs.Pass.{RegisterId};
 
-    ghost Value = { Origin };
+    ghost Value = { RegisterId };
 
     ghost view = { λ shared. record {
       table = shared.words.table.shared.table_id;

@@ -19,9 +19,9 @@ const LAST: u32 = 3_000;
 
 /// A whole scan: what it answers of each slot, and `None` past the slots.
 fn scan_all(shared: &Shared, writer: &mut WriterPass, slots: u8) -> [Option<u32>; 10]
-    requires same { writer.old.origin ≡ shared.now }
+    requires same { writer.old.register ≡ shared.now }
     requires slots { (slots ≡ shared.now.sizes.readers + 2) × (slots ≤ 10) }
-    ensures same { writer.new.origin ≡ writer.old.origin }
+    ensures same { writer.new.register ≡ writer.old.register }
     ensures whole { IsWhole shared.now.sizes writer.new.account }
     ensures version { writer.new.account.version ≡ writer.old.account.version }
 {
@@ -41,7 +41,7 @@ fn follow_one<L: Ledger>(
     reader: &mut ReaderPass,
 )
     requires blank { (blank.name ≡ L.name) × (blank.parts ≡ L.parts) × (0 < L.parts) }
-    requires same { (writer.old.origin ≡ shared.now) × (reader.old.origin ≡ shared.now) }
+    requires same { (writer.old.register ≡ shared.now) × (reader.old.register ≡ shared.now) }
     requires readers { shared.now.sizes.readers ≡ 1 }
     requires fresh { (writer.old.account.version ≡ 0) × (reader.old.notes.held ≡ None) }
 {
@@ -144,7 +144,7 @@ struct Follower<'a> {
     fell: bool,
     /// Whether it holds that version for good.
     done: bool,
-    ghost same: { pass.origin ≡ shared.now },
+    ghost same: { pass.register ≡ shared.now },
     ghost free: { done ≡ false → pass.notes.held ≡ None },
 }
 
@@ -154,7 +154,7 @@ struct Author<'a> {
     shared: &'a Shared,
     pass: WriterPass,
     published: u32,
-    ghost same: { pass.origin ≡ shared.now },
+    ghost same: { pass.register ≡ shared.now },
     ghost readers: { shared.now.sizes.readers ≡ 8 },
     ghost version: { pass.account.version ≡ published },
 }
@@ -176,8 +176,8 @@ fn saw_newer<L: Ledger>(
     version: u32,
     steps: &mut Steps<L>,
 ) -> bool
-    requires { pass.old.origin ≡ shared.now }
-    ensures same { pass.new.origin ≡ pass.old.origin }
+    requires { pass.old.register ≡ shared.now }
+    ensures same { pass.new.register ≡ pass.old.register }
     ensures held { pass.new.notes.held ≡ pass.old.notes.held }
     ensures newer { IsTrue result → IsSomeAnd pass.new.notes.latest (λ v. version < v) }
 {
@@ -237,7 +237,7 @@ fn run_threads<R: Threads + Sync>(rt: &R, author: &mut Author, followers: &mut [
 }
 
 fn follower_of<'a>(shared: &'a Shared, pass: ReaderPass) -> Follower<'a>
-    requires { (pass.origin ≡ shared.now) × (pass.notes.held ≡ None) }
+    requires { (pass.register ≡ shared.now) × (pass.notes.held ≡ None) }
 {
     Follower {
         shared,

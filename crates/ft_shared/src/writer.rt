@@ -60,7 +60,7 @@ impl WriterPass {
 impl Shared {
     /// Begins a scan by one load of CURRENT.
     pub fn begin_scan(&self, pass: &mut WriterPass)
-        requires { pass.old.origin ≡ self.now }
+        requires { pass.old.register ≡ self.now }
         ensures { pass.new ≡ record pass.old { account = after_begin pass.old.account } }
     {
         self.words.scan_load::<BeginScan>(&mut pass.place, 0);
@@ -71,7 +71,7 @@ impl Shared {
     ///
     /// A slot once found free is found free by each later scan, until a publish chooses it.
     pub fn scan_slot(&self, pass: &mut WriterPass, slot: u8) -> Option<u32>
-        requires same { pass.old.origin ≡ self.now }
+        requires same { pass.old.register ≡ self.now }
         requires begun { pass.old.account.begun ≡ true }
         requires next { next_slot pass.old.account ≡ slot }
         requires slot { slot < self.now.sizes.readers + 2 }
@@ -97,11 +97,11 @@ impl Shared {
     ///
     /// A whole scan always leaves a free slot, so there is no answer for its want.
     pub fn publish(&self, pass: &mut WriterPass, root: u16) -> u32
-        requires same { pass.old.origin ≡ self.now }
+        requires same { pass.old.register ≡ self.now }
         requires whole { IsWhole self.now.sizes pass.old.account }
         requires room { pass.old.account.version < 4294967295 }
         ensures next { result ≡ pass.old.account.version + 1 }
-        ensures origin { pass.new.origin ≡ pass.old.origin }
+        ensures register { pass.new.register ≡ pass.old.register }
         ensures published { Publishes self.now.sizes pass.old.account pass.new.account root }
         ensures history { pass.new.account.history ≡ pass.old.account.history
             ++ record { version = result; root = root; pool = pass.old.account.pool } ∷ [] }

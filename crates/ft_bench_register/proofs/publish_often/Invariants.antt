@@ -3,6 +3,6 @@ use Rattle.ft_bench_register.proofs.publish_often.Given as goal
 
 abbrev pub invariant-loop-done : goal.invariant-loop-done
 invariant-loop-done l = record {
-  same : l.writer.origin ≡ l.fn.writer.origin;
+  same : l.writer.register ≡ l.fn.writer.register;
   version : l.writer.account.version ≡ l._done;
 }

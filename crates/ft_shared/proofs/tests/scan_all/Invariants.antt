@@ -3,7 +3,7 @@ use Rattle.ft_shared.proofs.tests.scan_all.Given as goal
 
 abbrev pub invariant-loop-k : goal.invariant-loop-k
 invariant-loop-k l = record {
-  same : l.writer.origin ≡ l.fn.writer.origin;
+  same : l.writer.register ≡ l.fn.writer.register;
   begun : l.writer.account.begun ≡ true;
   next : length l.writer.account.scan ≡ l.k;
   version : l.writer.account.version ≡ l.fn.writer.account.version;

@@ -23,4 +23,4 @@ returns-clause-writer c =
     let account : account_of c.deal.new.place.me.0 ≡ opening_account c.in_ok-table.table.table.shared.key.sizes c.args.version c.args.root pool =
     ap (λ m. account_of m.0) c.in_ok-passes.ensures.writer ∙ (ap (λ (a : Account). record a { given = c.args.sizes.readers }) first ∙ (λ i. opening_account (sym about i).sizes c.args.version c.args.root (behind i))) in
     let table = c.in_ok-passes.ensures.place ∙ made.2 in
-    c.first-writer.ensures ∙ (λ i. record { origin = record { table = table i; sizes = (account i).sizes }; account = account i })
+    c.first-writer.ensures ∙ (λ i. record { register = record { table = table i; sizes = (account i).sizes }; account = account i })

@@ -1,0 +1,200 @@
+-- The steps keep the rule of the segments.
+use Rattle.std.proofs.Common.{zero, suc, Bool, true, false, cond, ◌==◌, ◌≡◌, ◌≢◌, ◌⊎◌, ℕ, ◌+◌, ◌*◌, ◌<◌, ◌≤◌, List, [], ◌∷◌, ◌++◌, length, get_or, set, sym, refl, ap, ◌∙◌, subst, ⊎_elim, arith, Option, Some, None, IsSome, IsSomeAnd, IfSome, slice_index, slice_index_or, length-set, length-append, get_or-set_other, get_or-set_same, eq-eqb, ne_eqb}
+use Rattle.std.proofs.lemmas.List.{get_or_append_left, get_or_push}
+use mathlib.Core.Option.{some}
+use mathlib.Core.Logic.{dite}
+use native.Mathlib.Decide.{ℕ_discrete}
+use lib.ListN.{get_elem?}
+use Rattle.std.specs.List.{Contains}
+use Rattle.atomic_table.proofs.Lists.{at_set, at_snoc}
+use Rattle.ft_segments.specs.Packing.{word_at}
+use Rattle.ft_segments.specs.Walk.{IsOf}
+use Rattle.ft_shared.specs.declared.law.Sizes.{Sizes}
+use Rattle.ft_shared.specs.declared.law.PlacedVersion.{PlacedVersion}
+use Rattle.ft_shared.specs.declared.law.TakenVersion.{TakenVersion}
+use Rattle.ft_shared.specs.declared.law.Hold.{Hold}
+use Rattle.ft_shared.specs.declared.law.Account.{Account}
+use Rattle.ft_shared.specs.declared.law.View.{View}
+use Rattle.ft_shared.specs.declared.law.View.TheVariants.{Spent, Reader, Writer}
+use Rattle.ft_shared.specs.Counts.{IsBehind}
+use Rattle.ft_shared.specs.History.{placed_at, place_of, HasVersion, HasTakenVersion, IsOfVersion}
+use Rattle.ft_shared.specs.Account.{slot_at, after_fill, after_publish}
+use Rattle.ft_shared.specs.Segments.{IsAsPlaced, IsUnwritten, IsKept, slot_answer, SegmentRule}
+
+-- ---- versions of a history by their numbers
+
+abbrev pub is_there : {A : Type 0} → Option A → Bool
+is_there None = false
+is_there (Some x) = true
+
+pub some_is : {A : Type 0} (o : Option A) (P : A → Type 0) → IsSomeAnd o P → IsSome o
+some_is None P s = absurd s
+some_is (Some x) P s = refl
+
+-- what is so of a value that is there
+pub some_then : {A : Type 0} (o : Option A) (P Q R : A → Type 0) → IsSomeAnd o P → IfSome o Q → ((x : A) → P x → Q x → R x) → IsSomeAnd o R
+some_then None P Q R s q f = absurd s
+some_then (Some x) P Q R s q f = f x s q
+
+-- a version that is there stays where it is
+pub placed_grows : (h : List PlacedVersion) (p : PlacedVersion) (v : ℕ) → IsSome (placed_at h v) → placed_at (h ++ p ∷ []) v ≡ placed_at h v
+placed_grows [] p v s = absurd (no s)
+  where
+    no : false ≡ true → ⊥
+    no e = cc
+placed_grows (x ∷ xs) p v s = pick (x.version == v) x (placed_at xs v) (placed_at (xs ++ p ∷ []) v) s (placed_grows xs p v)
+  where
+    pick : (b : Bool) (x : PlacedVersion) (o o' : Option PlacedVersion) → IsSome (cond b (Some x) o) → (IsSome o → o' ≡ o) → cond b (Some x) o' ≡ cond b (Some x) o
+    pick true x o o' s f = refl
+    pick false x o o' s f = f s
+
+-- what is so of a version that is there, is so when the history has grown
+pub still_there : (h : List PlacedVersion) (p : PlacedVersion) (v : ℕ) (P : PlacedVersion → Type 0) → IsSomeAnd (placed_at h v) P → IsSomeAnd (placed_at (h ++ p ∷ []) v) P
+still_there h p v P s = subst (λ (o : Option PlacedVersion). IsSomeAnd o P) (sym (placed_grows h p v (some_is (placed_at h v) P s))) s
+
+-- a version with a number of its own is found by it
+pub placed_new : (h : List PlacedVersion) (p : PlacedVersion) → ((n : ℕ) (x : PlacedVersion) → get_elem? h n ≡ some x → x.version ≢ p.version) → placed_at (h ++ p ∷ []) p.version ≡ Some p
+placed_new [] p ne = ap (λ (b : Bool). cond b (Some p) None) (eq-eqb p.version p.version refl)
+placed_new (x ∷ xs) p ne =
+    ap (λ (b : Bool). cond b (Some x) (placed_at (xs ++ p ∷ []) p.version)) (ne_eqb x.version p.version (ne 0 x refl))
+    ∙ placed_new xs p (λ n y e. ne (suc n) y e)
+
+-- ---- where the writer's account changes
+
+unwritten_still : (a b : Account) (v : ℕ) → b.history ≡ a.history → b.pool ≡ a.pool → b.filled ≡ a.filled → IsUnwritten a v → IsUnwritten b v
+unwritten_still a b v hs ps fs u =
+    let U : List PlacedVersion × List ℕ × List ℕ → Type 0 = λ z. IsUnwritten (record a { history = z.0; pool = z.1; filled = z.2 }) v in
+    subst U (λ i. (sym hs i, sym ps i, sym fs i)) u
+
+kept_still : (a b : Account) (h : Hold) → b.history ≡ a.history → b.pool ≡ a.pool → b.filled ≡ a.filled → IsKept a h → IsKept b h
+kept_still a b h hs ps fs k = record {
+  held = λ t e. unwritten_still a b t.version hs ps fs (k.held t e);
+}
+
+module _ (sizes : Sizes) where
+  -- an account that differs in nothing that the segments rest on
+  pub segments_still : (views : List View) (a b : Account) → b.history ≡ a.history → b.pool ≡ a.pool → b.filled ≡ a.filled → b.version ≡ a.version
+      → ((k : ℕ) → (slot_at b k).version ≡ (slot_at a k).version)
+      → ((k : ℕ) → k < length b.scan → slice_index_or b.scan k None ≡ slot_answer b k)
+      → SegmentRule sizes views a → SegmentRule sizes views b
+  segments_still views a b hs ps fs vs slots answers rule = record {
+    filled = (ap length fs ∙ rule.filled.0, λ k. let e : slice_index b.filled k ≡ slice_index a.filled k = ap (λ (l : List ℕ). slice_index l k) fs in let f = rule.filled.1 k in omega arith);
+    current = subst (IsUnwritten b) (sym vs) (unwritten_still a b a.version hs ps fs rule.current);
+    borne = λ k l. subst (λ (z : List PlacedVersion × ℕ). HasVersion z.0 z.1) (λ i. (sym hs i, sym (slots k) i)) (rule.borne k l);
+    answers = answers;
+    kept = λ seat view hold at behind. kept_still a b hold hs ps fs (rule.kept seat view hold at behind);
+  }
+
+  -- the writer's seat has the account
+  pub segments_seat : (views : List View) (a b : Account) (id : ℕ) → get_elem? views id ≡ some (Writer a) → b.settled ≡ a.settled → SegmentRule sizes views b → SegmentRule sizes (set views id (Writer b)) b
+  segments_seat views a b id at same rule = record {
+    filled = rule.filled;
+    current = rule.current;
+    borne = rule.borne;
+    answers = rule.answers;
+    kept = λ seat view hold e behind. ⊎_elim
+        (λ (t : (seat ≡ id) × (Writer b ≡ view)). rule.kept id (Writer a) hold at
+        (subst (λ (l : List Hold). Contains l hold) same (subst (λ (v : View). IsBehind v hold) (sym t.1) behind)))
+        (λ (t : (seat ≢ id) × (get_elem? views seat ≡ some view)). rule.kept seat view hold t.1 behind)
+        (at_set views id seat (Writer b) view e);
+  }
+
+  -- a reader's seat has what is kept
+  pub segments_reader : (views : List View) (a : Account) (id : ℕ) (h : Hold) → IsKept a h → SegmentRule sizes views a → SegmentRule sizes (set views id (Reader h)) a
+  segments_reader views a id h kept rule = record {
+    filled = rule.filled;
+    current = rule.current;
+    borne = rule.borne;
+    answers = rule.answers;
+    kept = λ seat view hold e behind. ⊎_elim
+        (λ (t : (seat ≡ id) × (Reader h ≡ view)). subst (IsKept a) (subst (λ (v : View). IsBehind v hold) (sym t.1) behind) kept)
+        (λ (t : (seat ≢ id) × (get_elem? views seat ≡ some view)). rule.kept seat view hold t.1 behind)
+        (at_set views id seat (Reader h) view e);
+  }
+
+  -- one more reader has a seat
+  pub segments_more : (views : List View) (a : Account) (h : Hold) → IsKept a h → SegmentRule sizes views a → SegmentRule sizes (views ++ Reader h ∷ []) a
+  segments_more views a h kept rule = record {
+    filled = rule.filled;
+    current = rule.current;
+    borne = rule.borne;
+    answers = rule.answers;
+    kept = λ seat view hold e behind. ⊎_elim
+        (λ (t : get_elem? views seat ≡ some view). rule.kept seat view hold t behind)
+        (λ (t : Reader h ≡ view). subst (IsKept a) (subst (λ (v : View). IsBehind v hold) (sym t) behind) kept)
+        (at_snoc views (Reader h) view seat e);
+  }
+
+  -- ---- a publish
+
+  -- a version of the history stays unwritten when the history grows
+  unwritten_grows : (a b : Account) (p : PlacedVersion) (v : ℕ) → b.history ≡ a.history ++ p ∷ [] → b.pool ≡ a.pool → b.filled ≡ a.filled → HasVersion a.history v → IsUnwritten a v → IsUnwritten b v
+  unwritten_grows a b p v hs ps fs there u =
+      let c : Account = record a { history = a.history ++ p ∷ [] } in
+      unwritten_still c b v hs ps fs (subst (λ (o : Option PlacedVersion). IfSome o (λ placed. (segment : ℕ) → IsOf (place_of placed) segment → IsAsPlaced a placed segment)) (sym (placed_grows a.history p v there)) u)
+
+  -- the new version is the words as they are
+  unwritten_new : (a b : Account) (p : PlacedVersion) → placed_at b.history p.version ≡ Some p → p.pool ≡ b.pool → ((k : ℕ) → slice_index b.filled k ≤ p.version) → IsUnwritten b p.version
+  unwritten_new a b p new pool fs = subst (λ (o : Option PlacedVersion). IfSome o (λ placed. (segment : ℕ) → IsOf (place_of placed) segment → IsAsPlaced b placed segment)) (sym new)
+      (λ segment of. ((λ place l. ap (λ (ws : List ℕ). word_at ws segment place) (sym pool)), fs segment))
+
+  pub segments_published : (views : List View) (a : Account) (k root n : ℕ)
+      → ((m : ℕ) (x : PlacedVersion) → get_elem? a.history m ≡ some x → x.version ≢ a.version + 1)
+      → ((j : ℕ) → j ≢ k → (slot_at (after_publish a k root n) j).version ≡ (slot_at a j).version)
+      → (slot_at (after_publish a k root n) k).version ≡ a.version + 1
+      → ((seat : ℕ) (view : View) (hold : Hold) → get_elem? views seat ≡ some view → IsBehind view hold → (t : TakenVersion) → hold.notes.held ≡ Some t → HasVersion a.history t.version)
+      → SegmentRule sizes views a → SegmentRule sizes views (after_publish a k root n)
+  segments_published views a k root n apart else here known rule =
+      let b : Account = after_publish a k root n in
+      let p : PlacedVersion = record { version = a.version + 1; root = root; pool = a.pool } in
+      let new : placed_at b.history p.version ≡ Some p = placed_new a.history p apart in
+      record {
+        filled = (rule.filled.0, λ j. let f = rule.filled.1 j in omega arith);
+        current = unwritten_new a b p new refl rule.filled.1;
+        borne = λ j l. dite (ℕ_discrete j k)
+            (λ (e : j ≡ k). subst (λ (i : ℕ). HasVersion b.history (slot_at b i).version) (sym e)
+            (subst (HasVersion b.history) (sym here) (ap is_there new)))
+            (λ (e : j ≢ k). subst (HasVersion b.history) (sym (else j e)) (ap is_there (placed_grows a.history p (slot_at a j).version (rule.borne j l)) ∙ rule.borne j l));
+        answers = λ j l. absurd (omega arith);
+        kept = λ seat view hold at behind. record {
+          held = λ t e. unwritten_grows a b p t.version refl refl refl (known seat view hold at behind t e) ((rule.kept seat view hold at behind).held t e);
+        };
+      }
+
+  -- ---- a fill
+
+  -- the words of other segments stay
+  filled_else : (a : Account) (s at w segment : ℕ) (placed : PlacedVersion) → at < 256 → segment ≢ s → IsAsPlaced a placed segment → IsAsPlaced (after_fill a s at w) placed segment
+  filled_else a s at w segment placed few ne is = (
+    λ place l. get_or-set_other a.pool (s * 256 + at) (segment * 256 + place) w 0 (λ e. ne (omega arith)) ∙ is.0 place l,
+    (let e : slice_index (set a.filled s (a.version + 1)) segment ≡ slice_index a.filled segment = get_or-set_other a.filled s segment (a.version + 1) 0 ne in let f = is.1 in omega arith),
+  )
+
+  -- a version that the segment isn't of stays unwritten
+  unwritten_else : (a : Account) (s at w v : ℕ) → at < 256 → (IsOfVersion a.history v s → ⊥) → IsUnwritten a v → IsUnwritten (after_fill a s at w) v
+  unwritten_else a s at w v few apart u = go (placed_at a.history v) apart u
+    where
+      go : (o : Option PlacedVersion) → (IsSomeAnd o (λ placed. IsOf (place_of placed) s) → ⊥) → IfSome o (λ placed. (segment : ℕ) → IsOf (place_of placed) segment → IsAsPlaced a placed segment)
+          → IfSome o (λ placed. (segment : ℕ) → IsOf (place_of placed) segment → IsAsPlaced (after_fill a s at w) placed segment)
+      go None apart u = tt
+      go (Some p) apart u = λ segment of. filled_else a s at w segment p few (λ e. apart (subst (IsOf (place_of p)) e of)) (u segment of)
+
+  pub segments_filled : (views : List View) (a : Account) (s at w : ℕ) → at < 256 → (IsOfVersion a.history a.version s → ⊥)
+      → ((seat : ℕ) (view : View) (hold : Hold) → get_elem? views seat ≡ some view → IsBehind view hold → (t : TakenVersion) → hold.notes.held ≡ Some t → IsOfVersion a.history t.version s → ⊥)
+      → SegmentRule sizes views a → SegmentRule sizes views (after_fill a s at w)
+  segments_filled views a s at w few apart free rule = record {
+    filled = (length-set a.filled s (a.version + 1) ∙ rule.filled.0, λ k. dite (ℕ_discrete k s)
+        (λ (e : k ≡ s). subst (λ (j : ℕ). slice_index (set a.filled s (a.version + 1)) j ≤ a.version + 1) (sym e) (set-le a.filled s (a.version + 1) (a.version + 1) (omega arith)))
+        (λ (e : k ≢ s). let o : slice_index (set a.filled s (a.version + 1)) k ≡ slice_index a.filled k = get_or-set_other a.filled s k (a.version + 1) 0 e in let f = rule.filled.1 k in omega arith));
+    current = unwritten_else a s at w a.version few apart rule.current;
+    borne = rule.borne;
+    answers = rule.answers;
+    kept = λ seat view hold there behind. record {
+      held = λ t e. unwritten_else a s at w t.version few (free seat view hold there behind t e) ((rule.kept seat view hold there behind).held t e);
+    };
+  }
+    where
+      set-le : (l : List ℕ) (k x m : ℕ) → x ≤ m → slice_index (set l k x) k ≤ m
+      set-le [] k x m le = omega arith
+      set-le (y ∷ l) zero x m le = le
+      set-le (y ∷ l) (suc k) x m le = set-le l k x m le
