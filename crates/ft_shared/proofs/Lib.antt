@@ -4,3 +4,5 @@ pub mod Writes
 pub mod Publish
 pub mod Opens
 mod Segments
+pub mod Fills
+pub mod Seats

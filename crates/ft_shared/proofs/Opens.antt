@@ -1,5 +1,5 @@
 -- The words that a register opens with meet the rule.
-use Rattle.std.proofs.Common.{zero, suc, true, false, ◌≡◌, ℕ, ◌+◌, ◌-◌, ◌*◌, ◌<◌, ◌≤◌, List, [], ◌∷◌, ◌++◌, length, drop, replicate, get_or, sym, refl, ap, ◌∙◌, subst, arith, length-append, ◌==◌, Bool, cond, Option, Some, None, IsSomeAnd, IfSome, slice_index, slice_index_or, eq-eqb}
+use Rattle.std.proofs.Common.{zero, suc, true, false, ◌≡◌, ℕ, ◌+◌, ◌-◌, ◌*◌, ◌<◌, ◌≤◌, List, [], ◌∷◌, ◌++◌, length, drop, replicate, get_or, sym, refl, ap, ◌∙◌, subst, arith, length-append, Bool, cond, Option, Some, None, IsSomeAnd, IfSome, slice_index, slice_index_or, eq-eqb}
 use Rattle.std.specs.List.{Contains}
 use Rattle.std.proofs.lemmas.List.{get_or-drop, length-drop, get_or_append_left}
 use mathlib.Core.Option.{some, some-injective, some-ne-none}

@@ -1,5 +1,5 @@
 -- A reader's steps keep the rule.
-use Rattle.std.proofs.Common.{true, ltb, false-eqb, ◌≡◌, ◌≢◌, ℕ, ◌+◌, ◌*◌, ◌%◌, ◌^◌, ◌<◌, ◌≤◌, eqb, List, [], ◌∷◌, length, get_or, set, sym, refl, ap, ◌∙◌, subst, ⊎_elim, arith, Option, Some, None, IsSomeAnd, length-set, get_or-set_other, get_or-set_same, eq-eqb, ne_eqb}
+use Rattle.std.proofs.Common.{true, ltb, false-eqb, ◌≡◌, ◌≢◌, ℕ, ◌+◌, ◌*◌, ◌%◌, ◌^◌, ◌<◌, ◌≤◌, eqb, List, [], ◌∷◌, length, get_or, set, sym, refl, ap, ◌∙◌, subst, ⊎_elim, arith, Option, Some, None, All, IsSomeAnd, length-set, get_or-set_other, get_or-set_same, eq-eqb, ne_eqb}
 use Rattle.std.proofs.lemmas.List.Elements.{All-append, All-contains}
 use Rattle.std.specs.List.{Contains}
 use mathlib.Core.Option.{none, some}
@@ -9,24 +9,55 @@ use lib.ListN.{get_elem?}
 use lib.Seq.{set-get_or}
 use Rattle.atomic_table.specs.Table.{step, keeps, Allows}
 use Rattle.atomic_table.proofs.Lists.{at_set}
+use Rattle.ft_segments.specs.Packing.{word_at}
+use Rattle.ft_segments.specs.Walk.{IsOf}
+use Rattle.ft_shared.specs.declared.law.Sizes.{Sizes}
 use Rattle.ft_shared.specs.declared.law.Opening.{Opening}
 use Rattle.ft_shared.specs.declared.law.TakenVersion.{TakenVersion}
+use Rattle.ft_shared.specs.declared.law.WordRead.{WordRead}
 use Rattle.ft_shared.specs.declared.law.Hold.{Hold}
 use Rattle.ft_shared.specs.declared.law.Account.{Account}
 use Rattle.ft_shared.specs.declared.law.View.{View}
 use Rattle.ft_shared.specs.declared.law.View.TheVariants.{Spent, Reader, Writer}
-use Rattle.ft_shared.specs.Layout.{current_word, version_in, slot_in, root_in}
+use Rattle.ft_shared.specs.Layout.{current_word, segment_at, version_in, slot_in, root_in}
 use Rattle.ft_shared.specs.Counts.{bit, sum_below, pass_sum, one, has_number, grip, grip_of, holders, IsBehind}
-use Rattle.ft_shared.specs.History.{placed_at, HasVersion, HasTakenVersion}
+use Rattle.ft_shared.specs.History.{placed_at, place_of, HasVersion, HasTakenVersion, HasRead}
 use Rattle.ft_shared.specs.Account.{slot_at, hold_of}
-use Rattle.ft_shared.specs.Segments.{IsUnwritten, IsKept}
+use Rattle.ft_shared.specs.Segments.{IsAsPlaced, IsUnwritten, IsKept}
 use Rattle.ft_shared.specs.Register.{TableState, SeatView, Stands, Fits, scan_count, RegisterRule}
-use Rattle.ft_shared.specs.Plays.{after_look, after_take, after_leave, IsLook, IsTake, IsLeave}
+use Rattle.ft_shared.specs.Pass.{held_read}
+use Rattle.ft_shared.specs.Plays.{after_look, after_take, after_word, after_leave, IsLook, IsTake, IsWordRead, IsLeave}
 use Rattle.ft_shared.proofs.Sums.{total-set, total-le, all_one, passes-le, version-of, slot-of, root-of, amount-le, sum_below-le}
-use Rattle.ft_shared.proofs.Segments.{some_is, segments_reader}
+use Rattle.ft_shared.proofs.Segments.{some_is, some_then, segments_reader}
+
+all_none : {A : Type 0} (P : A → Type 0) → All P []
+all_none P k d l = absurd (omega arith)
 
 none_some : {A : Type 0} (x : A) → None ≡ Some x → ⊥
 none_some x e = cc
+
+-- a word of the pool has one segment and one place in it
+pub same_place : (sizes : Sizes) (s p s2 p2 : ℕ) → p < 256 → p2 < 256 → segment_at sizes s p ≡ segment_at sizes s2 p2 → (s ≡ s2) × (p ≡ p2)
+same_place sizes s p s2 p2 few few2 e =
+    let pins : ℕ = sizes.readers * sizes.channels in
+    let e' : sizes.readers + 3 + pins + (s * 256 + p) ≡ sizes.readers + 3 + pins + (s2 * 256 + p2) = e in
+    (omega arith, omega arith)
+
+-- what is read of a held version is the version's word there
+held_reads : (a : Account) (h : Hold) (s p w : ℕ) → p < 256
+    → ((t : TakenVersion) → h.notes.held ≡ Some t → HasTakenVersion a.history t)
+    → ((t : TakenVersion) → h.notes.held ≡ Some t → IsUnwritten a t.version)
+    → w ≡ word_at a.pool s p → (o : Option TakenVersion) → h.notes.held ≡ o → All (HasRead a.history) (held_read o s p w)
+held_reads a h s p w few had kept found None e = all_none (HasRead a.history)
+held_reads a h s p w few had kept found (Some t) e =
+    let r : WordRead = record { version = t.version; pin = None; segment = s; at = p; word = w } in
+    all_one (HasRead a.history) r
+    (some_then (placed_at a.history t.version)
+    (λ placed. placed.root ≡ t.root)
+    (λ placed. (segment : ℕ) → IsOf (place_of placed) segment → IsAsPlaced a placed segment)
+    (λ placed. IsOf (place_of placed) s → word_at placed.pool s p ≡ w)
+    (had t e) (kept t e)
+    (λ placed _ q of. sym ((q s of).0 p few) ∙ sym found))
 
 module _ (key : Opening) where
   -- the count fits its byte
@@ -182,6 +213,47 @@ module _ (key : Opening) where
             (λ k l ne. rule.leavers k l ne ∙ cc (else k ne, get_or-set_other state.words 0 (k + 1) ((w + 1) % 2 ^ 64) 0 (omega arith)))
             (λ k ne. let e = else k ne in omega arith),
         (refl, omega arith, (let n : h.notes.sizes.readers ≡ key.sizes.readers = ap (λ z. z.readers) mine.told in omega arith), refl),
+      )
+
+  -- a word is read of the held version: by the rule it is the version's
+  pub reads : (slots id s place : ℕ) (me : SeatView) → me.0 ≡ Reader (hold_of me.0) → place < 256
+      → Allows (RegisterRule key) slots id me (segment_at (hold_of me.0).notes.sizes s place) (λ n. n)
+      (IsWordRead (step slots (segment_at (hold_of me.0).notes.sizes s place) 0 0 none) me)
+  reads slots id s place me is few state rule deep at small =
+      let h : Hold = hold_of me.0 in
+      let at' : get_elem? state.views id ≡ some (Reader h) = at ∙ ap some is in
+      let i : ℕ = segment_at h.notes.sizes s place in
+      let w : ℕ = get_or state.words i 0 in
+      let h' : Hold = after_word h s place w in
+      let a : Account = rule.account in
+      let mine = rule.each_seat id (Reader h) at' in
+      let kept = rule.segments.kept id (Reader h) h at' refl in
+      let found : w ≡ word_at a.pool s place = ap (λ (z : Sizes). get_or state.words (segment_at z s place) 0) mine.told ∙ rule.stored.1 (s * 256 + place) in
+      let same : (k : ℕ) → holders k (set state.views id (Reader h')) ≡ holders k state.views = λ k.
+      let e = total-set (pass_sum (grip_of k)) state.views id (Reader h) (Reader h') at' in omega arith in (
+        Reader h',
+        keeps,
+        tt,
+        subst (λ (words : List ℕ). RegisterRule key record { words = words; homes = state.homes; views = set state.views id (Reader h') }) (sym (set-get_or state.words i 0))
+            (reader_step state rule id h h' state.words at' refl refl (record {
+              told = mine.told;
+              past = mine.past;
+              recent = mine.recent;
+              borne = mine.borne;
+              agrees = record {
+                looks = mine.agrees.looks;
+                takes = mine.agrees.takes;
+                held = mine.agrees.held;
+                reads = All-append (HasRead a.history) h.notes.reads (held_read h.notes.held s place w) mine.agrees.reads
+                    (held_reads a h s place w few mine.agrees.held kept.held found h.notes.held refl);
+              };
+            })
+            (record { held = kept.held })
+            (λ i l. refl)
+            (rule.current ∙ ap (current_word a.version a.slot a.root) (sym (same a.slot))) rule.fresh
+            (λ k l ne. rule.leavers k l ne ∙ ap (λ (n : ℕ). get_or state.words (k + 1) 0 + n) (sym (same k)))
+            (λ k ne. let e = same k in omega arith)),
+        λ s2 place2 few2 e. let one = same_place h.notes.sizes s place s2 place2 few few2 e in (λ j. (Reader (after_word h (one.0 j) (one.1 j) w), me.1)),
       )
 
   leaves_one : (slots id : ℕ) (me : SeatView) (t : TakenVersion) (v : ℕ) → me.0 ≡ Reader (hold_of me.0) → (hold_of me.0).notes.held ≡ Some t → (hold_of me.0).notes.latest ≡ Some v → t.version < v

@@ -1,6 +1,5 @@
 -- The steps keep the rule of the segments.
-use Rattle.std.proofs.Common.{zero, suc, Bool, true, false, cond, ◌==◌, ◌≡◌, ◌≢◌, ◌⊎◌, ℕ, ◌+◌, ◌*◌, ◌<◌, ◌≤◌, List, [], ◌∷◌, ◌++◌, length, get_or, set, sym, refl, ap, ◌∙◌, subst, ⊎_elim, arith, Option, Some, None, IsSome, IsSomeAnd, IfSome, slice_index, slice_index_or, length-set, length-append, get_or-set_other, get_or-set_same, eq-eqb, ne_eqb}
-use Rattle.std.proofs.lemmas.List.{get_or_append_left, get_or_push}
+use Rattle.std.proofs.Common.{zero, suc, Bool, true, false, cond, ◌==◌, ◌≡◌, ◌≢◌, ℕ, ◌+◌, ◌*◌, ◌<◌, ◌≤◌, List, [], ◌∷◌, ◌++◌, length, set, sym, refl, ap, ◌∙◌, subst, ⊎_elim, arith, Option, Some, None, IsSome, IsSomeAnd, IfSome, slice_index, slice_index_or, length-set, get_or-set_other, eq-eqb, ne_eqb}
 use mathlib.Core.Option.{some}
 use mathlib.Core.Logic.{dite}
 use native.Mathlib.Decide.{ℕ_discrete}
@@ -15,9 +14,9 @@ use Rattle.ft_shared.specs.declared.law.TakenVersion.{TakenVersion}
 use Rattle.ft_shared.specs.declared.law.Hold.{Hold}
 use Rattle.ft_shared.specs.declared.law.Account.{Account}
 use Rattle.ft_shared.specs.declared.law.View.{View}
-use Rattle.ft_shared.specs.declared.law.View.TheVariants.{Spent, Reader, Writer}
+use Rattle.ft_shared.specs.declared.law.View.TheVariants.{Reader, Writer}
 use Rattle.ft_shared.specs.Counts.{IsBehind}
-use Rattle.ft_shared.specs.History.{placed_at, place_of, HasVersion, HasTakenVersion, IsOfVersion}
+use Rattle.ft_shared.specs.History.{placed_at, place_of, HasVersion, IsOfVersion}
 use Rattle.ft_shared.specs.Account.{slot_at, after_fill, after_publish}
 use Rattle.ft_shared.specs.Segments.{IsAsPlaced, IsUnwritten, IsKept, slot_answer, SegmentRule}
 
@@ -183,9 +182,12 @@ module _ (sizes : Sizes) where
       → ((seat : ℕ) (view : View) (hold : Hold) → get_elem? views seat ≡ some view → IsBehind view hold → (t : TakenVersion) → hold.notes.held ≡ Some t → IsOfVersion a.history t.version s → ⊥)
       → SegmentRule sizes views a → SegmentRule sizes views (after_fill a s at w)
   segments_filled views a s at w few apart free rule = record {
-    filled = (length-set a.filled s (a.version + 1) ∙ rule.filled.0, λ k. dite (ℕ_discrete k s)
-        (λ (e : k ≡ s). subst (λ (j : ℕ). slice_index (set a.filled s (a.version + 1)) j ≤ a.version + 1) (sym e) (set-le a.filled s (a.version + 1) (a.version + 1) (omega arith)))
-        (λ (e : k ≢ s). let o : slice_index (set a.filled s (a.version + 1)) k ≡ slice_index a.filled k = get_or-set_other a.filled s k (a.version + 1) 0 e in let f = rule.filled.1 k in omega arith));
+    filled = (
+      length-set a.filled s (a.version + 1) ∙ rule.filled.0,
+      λ k. dite (ℕ_discrete k s)
+          (λ (e : k ≡ s). subst (λ (j : ℕ). slice_index (set a.filled s (a.version + 1)) j ≤ a.version + 1) (sym e) (set-le a.filled s (a.version + 1) (a.version + 1) (omega arith)))
+          (λ (e : k ≢ s). let o : slice_index (set a.filled s (a.version + 1)) k ≡ slice_index a.filled k = get_or-set_other a.filled s k (a.version + 1) 0 e in let f = rule.filled.1 k in omega arith),
+    );
     current = unwritten_else a s at w a.version few apart rule.current;
     borne = rule.borne;
     answers = rule.answers;

@@ -6,10 +6,11 @@ use mathlib.Core.Logic.{dite}
 use native.Mathlib.Decide.{ℕ_discrete}
 use lib.ListN.{get_elem?}
 use Rattle.ft_shared.specs.declared.law.TakenVersion.{TakenVersion}
+use Rattle.ft_shared.specs.declared.law.Hold.{Hold}
 use Rattle.ft_shared.specs.declared.law.View.{View}
 use Rattle.ft_shared.specs.declared.law.View.TheVariants.{Spent, Reader, Writer}
 use Rattle.ft_shared.specs.Layout.{current_word, version_in, slot_in, root_in, count_in}
-use Rattle.ft_shared.specs.Counts.{bit, total, sum_below, pass_sum, one, grip, grip_of, holders}
+use Rattle.ft_shared.specs.Counts.{bit, total, sum_below, pass_sum, one, grip, grip_of, holders, IsBehind}
 use Rattle.ft_shared.specs.Register.{amount}
 
 module _ {A : Type 0} where
@@ -62,6 +63,12 @@ pub passes-le : (k : ℕ) (v : View) → pass_sum (grip_of k) v ≤ pass_sum one
 passes-le k Spent = omega arith
 passes-le k (Reader h) = grip-le k h.slot h.notes.held
 passes-le k (Writer a) = total-le (grip_of k) one (λ h. grip-le k h.slot h.notes.held) a.settled
+
+-- what a pass behind a seat counts is part of what the seat counts
+pub behind-le : (f : Hold → ℕ) (v : View) (h : Hold) → IsBehind v h → f h ≤ pass_sum f v
+behind-le f Spent h b = absurd b
+behind-le f (Reader other) h b = let e : f other ≡ f h = ap f b in omega arith
+behind-le f (Writer a) h b = let e : f (get_or a.settled b.0 h) ≡ f h = ap f b.2 in let l = index-le f a.settled b.0 h b.1 in omega arith
 
 pub version-of : (v k r n : ℕ) → k < 256 → r < 65536 → n < 256 → version_in (current_word v k r n) ≡ v
 version-of v k r n a b c = omega arith

@@ -129,7 +129,7 @@ module _ (key : Opening) where
           (sym same.0) (λ l t. given_at state rule id t same.1 l) (let n = ap (λ (y : Account). y.sizes.readers) same.0 in let m = ap (λ (y : Sizes). y.readers) rule.told in omega arith) at
 
   -- nothing changes but the scan and which slots are known to be free
-  scan_at : (state : TableState) (rule : RegisterRule key state) (id : ℕ) (b : Account) → get_elem? state.views id ≡ some (Writer rule.account) → id ≡ rule.writer
+  pub scan_at : (state : TableState) (rule : RegisterRule key state) (id : ℕ) (b : Account) → get_elem? state.views id ≡ some (Writer rule.account) → id ≡ rule.writer
       → b ≡ record rule.account { slots = b.slots; begun = b.begun; scans = b.scans; scan = b.scan; gone = b.gone; steps = b.steps }
       → length b.slots ≡ 10 → ((k : ℕ) → (slot_at b k).version ≡ (slot_at rule.account k).version) → ((k : ℕ) → (slot_at b k).start ≡ (slot_at rule.account k).start)
       → ((k : ℕ) → (slot_at b k).free ≡ true → (k ≢ rule.account.slot) × (holders k state.views ≡ 0))

@@ -10,6 +10,7 @@ mod law;
 mod open;
 mod passes;
 mod plays;
+mod pool;
 mod reader;
 mod shared;
 mod table;

@@ -90,6 +90,7 @@ impl Shared {
         let shared = Shared {
             words: table,
             segments: sizes.segments as u16,
+            pool: (sizes.readers + 3 + sizes.readers * sizes.channels) as u16,
         };
         let readers = sizes.readers as u8;
         let passes = shared.deal(alloc, &mut place, readers)?;

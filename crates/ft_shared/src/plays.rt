@@ -1,5 +1,5 @@
 //! What each kind of step tells the seat that makes it.
-ghost use Rattle.ft_shared.specs.Plays.{IsLook, IsTake, IsLeave, IsScanBegin, IsSlotScan, IsClear, IsPublish, after_give, given_pass};
+ghost use Rattle.ft_shared.specs.Plays.{IsLook, IsTake, IsLeave, IsWordRead, IsScanBegin, IsSlotScan, IsPoolRead, IsFill, IsClear, IsPublish, after_give, given_pass};
 
 use crate::law::View;
 use crate::table::{Adds, Loads, Stores, Swaps};
@@ -29,6 +29,15 @@ impl Play<(), View> for Leave {
     ghost then = { IsLeave };
 }
 
+/// A reader reads a word of a segment.
+pub(crate) struct ReadWord;
+
+impl Loads for ReadWord {}
+
+impl Play<(), View> for ReadWord {
+    ghost then = { IsWordRead };
+}
+
 /// The writer's seat gives a reader its seat.
 pub(crate) struct Give;
 
@@ -52,6 +61,24 @@ impl Loads for ScanSlot {}
 
 impl Play<(), View> for ScanSlot {
     ghost then = { IsSlotScan };
+}
+
+/// The writer reads a word of a segment.
+pub(crate) struct ReadPool;
+
+impl Loads for ReadPool {}
+
+impl Play<(), View> for ReadPool {
+    ghost then = { IsPoolRead };
+}
+
+/// The writer fills a word of a segment.
+pub(crate) struct Fill;
+
+impl Stores for Fill {}
+
+impl Play<(), View> for Fill {
+    ghost then = { IsFill };
 }
 
 /// The leavers of a free slot go to 0.

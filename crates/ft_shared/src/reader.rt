@@ -1,11 +1,11 @@
 //! A reader: it looks at the current version, takes it, and leaves it.
-ghost use Rattle.std.specs.Prelude.{◌≡◌, ℕ, ◌≤◌, ◌<◌, ◌+◌, [], None, IsSomeAnd};
+ghost use Rattle.std.specs.Prelude.{◌≡◌, ℕ, ◌≤◌, ◌<◌, ◌+◌, [], None, IsSome, IsSomeAnd};
 ghost use Rattle.ft_shared.specs.Account.{hold_of};
-ghost use Rattle.ft_shared.specs.Pass.{reader_at, note_look, note_take, note_leave};
+ghost use Rattle.ft_shared.specs.Pass.{reader_at, note_look, note_take, note_word, note_leave};
 ghost use Rattle.ft_shared.specs.declared.law.View.TheVariants.{Reader};
 
 use crate::law::Place;
-use crate::plays::{Leave, Look, Take};
+use crate::plays::{Leave, Look, ReadWord, Take};
 use crate::shared::Shared;
 use ft_types::Steps;
 use std::marker::Model;
@@ -82,6 +82,26 @@ impl Shared {
             version: (word >> 32) as u32,
             root: ((word >> 8) % 65536) as u16,
         }
+    }
+
+    /// The word `at` of the segment `seg`. It is noted with the version that the pass holds:
+    /// where the segment is one of that version, it is the version's word. One load.
+    pub fn word<L: Ledger>(
+        &self,
+        pass: &mut ReaderPass,
+        seg: u16,
+        at: u8,
+        steps: &mut Steps<L>,
+    ) -> u64
+        requires same { pass.old.register ≡ self.now }
+        requires held { IsSome pass.old.notes.held }
+        requires segment { seg < self.now.sizes.segments }
+        ensures noted { pass.new
+            ≡ record pass.old { notes = note_word pass.old.notes seg at result } }
+        ensures steps { steps.new ≡ steps.old + 1 }
+    {
+        let word = self.word_of(seg, at);
+        self.words.load::<ReadWord, L>(&mut pass.place, word, steps)
     }
 
     /// Gives up the version that the pass holds. Its latest look since the take must have

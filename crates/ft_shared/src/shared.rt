@@ -1,5 +1,6 @@
 //! The register as all threads see it.
-ghost use Rattle.std.specs.Prelude.{◌≡◌};
+ghost use Rattle.std.specs.Prelude.{◌≡◌, ◌<◌};
+ghost use Rattle.ft_shared.specs.Layout.{segment_at, word_count};
 
 use crate::table::WordTable;
 use std::marker::Model;
@@ -10,11 +11,13 @@ use thiserror::Error;
 pub struct Shared {
     pub(crate) words: WordTable,
     pub(crate) segments: u16,
+    /// The word of the table at which the pool begins.
+    pub(crate) pool: u16,
 }
 
 impl Model for Shared {
     ghost use Rattle.std.specs.Prelude.{◌≡◌};
-    ghost use Rattle.ft_shared.specs.Layout.{word_count};
+    ghost use Rattle.ft_shared.specs.Layout.{pool_at, word_count};
     ghost use Rattle.ft_shared.specs.Pass.{RegisterId};
 
     ghost Value = { RegisterId };
@@ -26,7 +29,8 @@ impl Model for Shared {
 
     ghost invariant = { λ shared. (shared.words.table.shared.table_id.words
         ≡ word_count shared.words.table.shared.key.sizes)
-        × (shared.words.table.shared.key.sizes.segments ≡ shared.segments) };
+        × (shared.words.table.shared.key.sizes.segments ≡ shared.segments)
+        × (pool_at shared.words.table.shared.key.sizes ≡ shared.pool) };
 }
 
 /// Why `Shared::open` refuses.
@@ -51,5 +55,14 @@ impl Shared {
         ensures { result ≡ self.now.sizes.segments }
     {
         self.segments
+    }
+
+    /// The number of a word of the pool in the table.
+    pub(crate) fn word_of(&self, seg: u16, at: u8) -> usize
+        requires { seg < self.now.sizes.segments }
+        ensures number { result ≡ segment_at self.now.sizes seg at }
+        ensures inside { result < word_count self.now.sizes }
+    {
+        self.pool as usize + (seg as usize * 256 + at as usize)
     }
 }

@@ -13,7 +13,7 @@ use std::marker::Model;
 /// The writer. There is one, and it needs no lock.
 #[derive(Drop)]
 pub struct WriterPass {
-    place: Place,
+    pub(crate) place: Place,
     readers: u8,
     version: u32,
     slot: u8,
