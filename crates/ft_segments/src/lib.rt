@@ -1,6 +1,11 @@
 //! How a song lies in segments of 256 words: numbers packed into words, and the walk over the ids
 //! by which a root names all segments of a version.
 //!
-//! There is no code here. `specs/Packing` says how numbers, bytes and ids lie in words, and
-//! `specs/Walk` which segments a root names. docs/WORDS.md draws them.
+//! Nothing here runs. `specs/Packing` says how numbers, bytes and ids lie in words, `specs/Walk`
+//! which segments a root names, and `specs/Pins` which of them a pin of a sample's root holds.
+//! The functions are laws. docs/WORDS.md draws the words.
 #![tactic(auto)]
+
+mod laws;
+
+pub use laws::held_by_a_pin_is_named;

@@ -1,0 +1,13 @@
+//! What holds of the walk, for crates that cite it. No function here has code.
+ghost use Rattle.std.specs.Prelude.{ℕ, List, ◌≤◌};
+ghost use Rattle.ft_segments.specs.Walk.{Placed, SameWords, sample_walk, sample_uses};
+ghost use Rattle.ft_segments.specs.Pins.{PinHolds};
+
+/// Where the segments that a pin of a sample's root holds of a version have the same words in
+/// another pool, the root names each of them there too.
+pub fn held_by_a_pin_is_named()
+    ensures { (placed : Placed) (pool : List ℕ) (root segment : ℕ)
+        → ((held : ℕ) → PinHolds placed root held → SameWords placed.pool pool held)
+        → PinHolds placed root segment
+        → 1 ≤ sample_uses segment (sample_walk pool root) }
+{}
