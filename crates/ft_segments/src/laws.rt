@@ -1,6 +1,7 @@
 //! What holds of the walk, for crates that cite it. No function here has code.
-ghost use Rattle.std.specs.Prelude.{ℕ, List, ◌≤◌};
-ghost use Rattle.ft_segments.specs.Walk.{Placed, SameWords, sample_walk, sample_uses};
+ghost use Rattle.std.specs.Prelude.{◌≡◌, ℕ, List, ◌≤◌, ◌<◌};
+ghost use Rattle.ft_segments.specs.Packing.{word_at};
+ghost use Rattle.ft_segments.specs.Walk.{Placed, IsSound, SameWords, is_it, walk, uses, sample_walk, sample_uses};
 ghost use Rattle.ft_segments.specs.Pins.{PinHolds};
 
 /// Where the segments that a pin of a sample's root holds of a version have the same words in
@@ -10,4 +11,15 @@ pub fn held_by_a_pin_is_named()
         → ((held : ℕ) → PinHolds placed root held → SameWords placed.pool pool held)
         → PinHolds placed root segment
         → 1 ≤ sample_uses segment (sample_walk pool root) }
+{}
+
+/// A root of a song without patterns and instruments names itself alone, as does a root of a
+/// sample without frames.
+pub fn a_bare_root_names_itself()
+    ensures song { (pool : List ℕ) (root segment : ℕ) → word_at pool root 1 ≡ 0
+        → uses segment (walk pool root) ≡ is_it segment root }
+    ensures sound { (pool : List ℕ) (root segments : ℕ) → word_at pool root 1 ≡ 0
+        → root < segments → IsSound segments (walk pool root) }
+    ensures sample { (pool : List ℕ) (root segment : ℕ) → word_at pool root 0 ≡ 0
+        → sample_uses segment (sample_walk pool root) ≡ is_it segment root }
 {}

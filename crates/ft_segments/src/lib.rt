@@ -8,4 +8,4 @@
 
 mod laws;
 
-pub use laws::held_by_a_pin_is_named;
+pub use laws::{a_bare_root_names_itself, held_by_a_pin_is_named};

@@ -1,7 +1,5 @@
 -- The writer's steps on words of the pool keep the rule.
-use Rattle.std.proofs.Common.{Bool, true, false, cond, eq-eqb, ◌≡◌, ◌≢◌, ℕ, ◌+◌, ◌*◌, ◌<◌, List, length, get_or, set, sym, refl, ap, ◌∙◌, subst, inl, inr, arith, Option, Some, None, slice_index_or, length-set, get_or-set_other, get_or-set_same}
-use Rattle.std.proofs.lemmas.List.Elements.{Contains-get_or}
-use Rattle.std.specs.List.{Contains}
+use Rattle.std.proofs.Common.{IsSomeAnd, ◌≡◌, ◌≢◌, ℕ, ◌+◌, ◌*◌, ◌<◌, List, length, get_or, set, sym, refl, ap, ◌∙◌, subst, inl, inr, arith, Option, slice_index_or, length-set, get_or-set_other, get_or-set_same}
 use mathlib.Core.Option.{none, some}
 use mathlib.Core.Logic.{dite}
 use native.Mathlib.Decide.{ℕ_discrete}
@@ -9,52 +7,31 @@ use lib.ListN.{get_elem?}
 use lib.Seq.{set-get_or}
 use Rattle.atomic_table.specs.Table.{step, keeps, Allows}
 use Rattle.ft_segments.specs.Packing.{word_at}
+use Rattle.ft_segments.specs.Pins.{PinHolds}
 use Rattle.ft_shared.specs.declared.law.Sizes.{Sizes}
 use Rattle.ft_shared.specs.declared.law.Opening.{Opening}
-use Rattle.ft_shared.specs.declared.law.TakenVersion.{TakenVersion}
-use Rattle.ft_shared.specs.declared.law.Hold.{Hold}
+use Rattle.ft_shared.specs.declared.law.PlacedVersion.{PlacedVersion}
 use Rattle.ft_shared.specs.declared.law.Account.{Account}
 use Rattle.ft_shared.specs.declared.law.View.{View}
 use Rattle.ft_shared.specs.declared.law.View.TheVariants.{Writer}
 use Rattle.ft_shared.specs.Layout.{current_word, segment_at}
-use Rattle.ft_shared.specs.Counts.{bit, pass_sum, one, has_number, grip, grip_of, holders, IsBehind}
-use Rattle.ft_shared.specs.Account.{slot_at, account_of, IsAnswered, MayFill, after_read, after_fill}
+use Rattle.ft_shared.specs.Counts.{one, has_number, grip_of, holders, pin_amount}
+use Rattle.ft_shared.specs.History.{place_of}
+use Rattle.ft_shared.specs.Account.{account_of, MayFill, after_read, after_fill}
 use Rattle.ft_shared.specs.Register.{TableState, SeatView, RegisterRule}
 use Rattle.ft_shared.specs.Plays.{IsPoolRead, IsFill}
-use Rattle.ft_shared.proofs.Sums.{at-le, behind-le}
+use Rattle.ft_shared.proofs.Sums.{pin_inside}
 use Rattle.ft_shared.proofs.Segments.{segments_seat, segments_filled}
-use Rattle.ft_shared.proofs.Readers.{fewer, stands_behind, same_place}
+use Rattle.ft_shared.proofs.Readers.{fewer, same_place}
+use Rattle.ft_shared.proofs.Found.{NamesHeld, finds_held_by}
 use Rattle.ft_shared.proofs.Writes.{seats_still, sum_still, stands_still, scan_at}
 
 module _ (key : Opening) where
-  -- a slot that a pass holds was not found free
-  held_slot : (state : TableState) (rule : RegisterRule key state) (seat : ℕ) (view : View) (hold : Hold) (t : TakenVersion) → get_elem? state.views seat ≡ some view → IsBehind view hold → hold.notes.held ≡ Some t
-      → (b : Bool) → (slot_at rule.account hold.slot).free ≡ b → b ≡ false
-  held_slot state rule seat view hold t at behind has false e = refl
-  held_slot state rule seat view hold t at behind has true e =
-      let empty : holders hold.slot state.views ≡ 0 = (rule.unused hold.slot e).1 in
-      let one : grip_of hold.slot hold ≡ 1 = ap (λ (o : Option TakenVersion). grip hold.slot o hold.slot) has ∙ ap bit (eq-eqb hold.slot hold.slot refl) in
-      let l = behind-le (grip_of hold.slot) view hold behind in
-      let m = at-le (pass_sum (grip_of hold.slot)) state.views seat view at in
-      absurd (omega arith)
-
-  -- once all slots were looked at, each version that a pass holds was answered
-  pub answers_held : (state : TableState) (rule : RegisterRule key state) → length rule.account.scan ≡ key.sizes.readers + 2
-      → (seat : ℕ) (view : View) (hold : Hold) → get_elem? state.views seat ≡ some view → IsBehind view hold → (t : TakenVersion) → hold.notes.held ≡ Some t → IsAnswered rule.account t.version
-  answers_held state rule whole seat view hold at behind t has =
-      let a : Account = rule.account in
-      let borne = (stands_behind key state rule seat view hold at behind).borne t has in
-      let inside = borne.0 in
-      let held : (slot_at a hold.slot).free ≡ false = held_slot state rule seat view hold t at behind has (slot_at a hold.slot).free refl in
-      let answer : slice_index_or a.scan hold.slot None ≡ Some t.version =
-      rule.segments.answers hold.slot (omega arith) ∙ (λ i. cond (held i) None (Some (borne.1 i))) in
-      subst (Contains a.scan) answer (Contains-get_or a.scan hold.slot None (omega arith))
-
   -- a segment that a whole scan did not find is filled
   filled_at : (state : TableState) (rule : RegisterRule key state) (id s place w : ℕ) → get_elem? state.views id ≡ some (Writer rule.account) → id ≡ rule.writer
-      → place < 256 → s < key.sizes.segments → MayFill key.sizes rule.account s
+      → NamesHeld → place < 256 → s < key.sizes.segments → MayFill key.sizes rule.account s
       → RegisterRule key record { words = set state.words (segment_at key.sizes s place) w; homes = state.homes; views = set state.views id (Writer (after_fill rule.account s place w)) }
-  filled_at state rule id s place w at writes few inside may =
+  filled_at state rule id s place w at writes names few inside may =
       let a : Account = rule.account in
       let b : Account = after_fill a s place w in
       let pins : ℕ = key.sizes.readers * key.sizes.channels in
@@ -84,7 +61,7 @@ module _ (key : Opening) where
         scanned = λ t. fewer key state rule views (λ k ne. let e = same k in omega arith) t;
         count = (sum_still key state id a b at refl one ∙ rule.count.0, rule.count.1);
         numbers = λ k. sum_still key state id a b at refl (has_number k) ∙ rule.numbers k;
-        unpinned = λ j l. before (key.sizes.readers + 3 + j) (omega arith) ∙ rule.unpinned j l;
+        pins = λ r c lr lc. let q : ℕ = r * key.sizes.channels in let l : q + c < pins = pin_inside r key.sizes.readers c key.sizes.channels lr lc in before (key.sizes.readers + 3 + (q + c)) (omega arith) ∙ (rule.pins r c lr lc ∙ sym (sum_still key state id a b at refl (pin_amount r c)));
         stored = (
           length-set a.pool n w ∙ rule.stored.0,
           λ m. dite (ℕ_discrete m n)
@@ -94,14 +71,16 @@ module _ (key : Opening) where
         );
         segments = segments_seat key.sizes state.views a b id at refl
             (segments_filled key.sizes state.views a s place w few (λ of. may.1 (inl of))
-            (λ seat view hold there behind t e of. may.1 (inr (t.version, answers_held state rule may.0.1 seat view hold there behind t e, of))) rule.segments);
+            (λ seat view hold there behind t e of. may.1 (finds_held_by key names state rule may.0 seat view hold there behind s (inl (t, e, of))))
+            (λ seat view hold there behind channel pin e placed is holds. may.1 (finds_held_by key names state rule may.0 seat view hold there behind s
+            (inr (channel, pin, e, subst (λ (o : Option PlacedVersion). IsSomeAnd o (λ q. PinHolds (place_of q) pin.root s)) (sym is) holds)))) rule.segments);
         settled = λ j x e. stands_still key a b (slice_index_or a.settled j x) refl (λ k. refl) refl (rule.settled j x e);
         each_seat = seats_still key state rule id writes b refl (λ k. refl) refl;
       }
 
-  pub fills : (slots id s place w : ℕ) (me : SeatView) → me.0 ≡ Writer (account_of me.0) → place < 256 → s < (account_of me.0).sizes.segments → MayFill (account_of me.0).sizes (account_of me.0) s
+  pub fills : NamesHeld → (slots id s place w : ℕ) (me : SeatView) → me.0 ≡ Writer (account_of me.0) → place < 256 → s < (account_of me.0).sizes.segments → MayFill (account_of me.0).sizes (account_of me.0) s
       → Allows (RegisterRule key) slots id me (segment_at (account_of me.0).sizes s place) (λ _. w) (λ _. IsFill (step slots (segment_at (account_of me.0).sizes s place) w 0 none) me w)
-  fills slots id s place w me is few inside may state rule deep at small =
+  fills names slots id s place w me is few inside may state rule deep at small =
       let e : Account = account_of me.0 in
       let at' : get_elem? state.views id ≡ some (Writer e) = at ∙ ap some is in
       let same : (e ≡ rule.account) × (id ≡ rule.writer) = rule.each_seat id (Writer e) at' in
@@ -112,7 +91,7 @@ module _ (key : Opening) where
         Writer (after_fill e s place w),
         keeps,
         tt,
-        subst R (sym same.0) (λ t. subst F (sym rule.told) (λ l m. filled_at state rule id s place w t same.1 few l m)) at' inside may,
+        subst R (sym same.0) (λ t. subst F (sym rule.told) (λ l m. filled_at state rule id s place w t same.1 names few l m)) at' inside may,
         λ s2 place2 few2 x. let one = same_place e.sizes s place s2 place2 few few2 x in (λ j. (Writer (after_fill e (one.0 j) (one.1 j) w), me.1)),
       )
 
@@ -134,7 +113,7 @@ module _ (key : Opening) where
         keeps,
         tt,
         subst (λ (words : List ℕ). RegisterRule key record { words = words; homes = state.homes; views = set state.views id (Writer (after_read e s place)) }) (sym (set-get_or state.words i 0))
-            (subst R (sym same.0) (λ t. scan_at key state rule id (after_read rule.account s place) t same.1 refl rule.deep (λ k. refl) (λ k. refl) rule.unused rule.scanned rule.segments.answers) at'),
+            (subst R (sym same.0) (λ t. scan_at key state rule id (after_read rule.account s place) t same.1 refl rule.deep (λ k. refl) (λ k. refl) rule.unused rule.scanned rule.segments.answers rule.segments.order rule.segments.scanned) at'),
         λ s2 place2 few2 x. let one = same_place e.sizes s place s2 place2 few few2 x in
             ((λ j. (Writer (after_read e (one.0 j) (one.1 j)), me.1)), (found ∙ (λ j. word_at e.pool (one.0 j) (one.1 j)))),
       )

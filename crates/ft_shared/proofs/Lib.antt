@@ -6,3 +6,5 @@ pub mod Opens
 mod Segments
 pub mod Fills
 pub mod Seats
+pub mod Pinned
+pub mod Found

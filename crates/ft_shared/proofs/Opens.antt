@@ -1,5 +1,5 @@
 -- The words that a register opens with meet the rule.
-use Rattle.std.proofs.Common.{zero, suc, true, false, ◌≡◌, ℕ, ◌+◌, ◌-◌, ◌*◌, ◌<◌, ◌≤◌, List, [], ◌∷◌, ◌++◌, length, drop, replicate, get_or, sym, refl, ap, ◌∙◌, subst, arith, length-append, Bool, cond, Option, Some, None, IsSomeAnd, IfSome, slice_index, slice_index_or, eq-eqb}
+use Rattle.std.proofs.Common.{inl, zero, suc, true, false, ◌≡◌, ℕ, ◌+◌, ◌-◌, ◌*◌, ◌<◌, ◌≤◌, List, [], ◌∷◌, ◌++◌, length, drop, replicate, get_or, sym, refl, ap, ◌∙◌, subst, arith, length-append, Bool, cond, Option, Some, None, IsSomeAnd, IfSome, slice_index, slice_index_or, eq-eqb}
 use Rattle.std.specs.List.{Contains}
 use Rattle.std.proofs.lemmas.List.{get_or-drop, length-drop, get_or_append_left}
 use mathlib.Core.Option.{some, some-injective, some-ne-none}
@@ -17,9 +17,9 @@ use Rattle.ft_shared.specs.Counts.{IsBehind}
 use Rattle.ft_shared.specs.History.{placed_at, place_of, HasVersion}
 use Rattle.ft_shared.specs.Layout.{current_word, pool_at}
 use Rattle.ft_shared.specs.Account.{slot_at, no_slot, new_slot, first_account, pool_of}
-use Rattle.ft_shared.specs.Segments.{IsAsPlaced, IsKept}
+use Rattle.ft_shared.specs.Segments.{IsAsPlaced}
 use Rattle.ft_shared.specs.Register.{Fits, RegisterRule}
-use Rattle.ft_shared.proofs.Sums.{bit-zero}
+use Rattle.ft_shared.proofs.Sums.{bit-zero, pin_inside}
 use Rattle.ft_shared.proofs.Segments.{is_there}
 
 true-false : true ≡ false → ⊥
@@ -90,7 +90,7 @@ module _ (key : Opening) where
         scanned = λ e. absurd (true-false (sym e));
         count = (refl, omega arith);
         numbers = λ n. sym (bit-zero n);
-        unpinned = λ i l. bare (key.sizes.readers + 3 + i) (omega arith) (omega arith);
+        pins = λ r c lr lc. bare (key.sizes.readers + 3 + (r * key.sizes.channels + c)) (let q : ℕ = r * key.sizes.channels in omega arith) (let i = pin_inside r key.sizes.readers c key.sizes.channels lr lc in let q : ℕ = r * key.sizes.channels in let i' : q + c < p = i in omega arith);
         stored = (
           length-drop (pool_at key.sizes) key.words.value.items ∙ (let n = ap length snap in omega arith),
           λ i. ap (λ (l : List ℕ). get_or l (pool_at key.sizes + i) 0) (sym snap) ∙ sym (get_or-drop (pool_at key.sizes) key.words.value.items i 0),
@@ -101,7 +101,9 @@ module _ (key : Opening) where
               (λ segment of. ((λ place l. refl), filled-at key.version key.sizes.segments segment));
           borne = λ k l. subst (HasVersion a.history) (sym (version-of-slot k (omega arith))) (ap is_there here);
           answers = λ k l. absurd (omega arith);
-          kept = λ seat view hold at behind. no-hold seat view hold at behind;
+          order = inl refl;
+          scanned = λ seat view hold at behind. absurd (no-behind seat view hold at behind);
+          kept = λ seat view hold at behind. absurd (no-behind seat view hold at behind);
         };
         settled = λ k d l. absurd (omega arith);
         each_seat = λ j w e. seat j w e;
@@ -125,9 +127,9 @@ module _ (key : Opening) where
       version-of-slot : (k : ℕ) → k < 10 → (slot_at (first_account key) k).version ≡ key.version
       version-of-slot k l = slots-version 10 k l
 
-      no-hold : (seat : ℕ) (view : View) (hold : Hold) → get_elem? (Writer (first_account key) ∷ []) seat ≡ some view → IsBehind view hold → IsKept (first_account key) hold
-      no-hold zero view hold at behind = let c : Contains [] hold = subst (λ (v : View). IsBehind v hold) (sym (some-injective (Writer (first_account key)) view at)) behind in let l = c.1 in absurd (omega arith)
-      no-hold (suc n) view hold at behind = absurd (some-ne-none view (sym at))
+      no-behind : (seat : ℕ) (view : View) (hold : Hold) → get_elem? (Writer (first_account key) ∷ []) seat ≡ some view → IsBehind view hold → ⊥
+      no-behind zero view hold at behind = let c : Contains [] hold = subst (λ (v : View). IsBehind v hold) (sym (some-injective (Writer (first_account key)) view at)) behind in let l = c.1 in omega arith
+      no-behind (suc n) view hold at behind = some-ne-none view (sym at)
 
       later : (i : ℕ) → 0 < i → get_or (current_word key.version 0 key.root 0 ∷ replicate (pool_at key.sizes - 1) 0) i 0 ≡ 0
       later zero more = absurd (omega arith)

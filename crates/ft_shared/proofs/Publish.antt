@@ -1,5 +1,5 @@
 -- The two steps of a publish keep the rule, and a whole scan leaves a free slot.
-use Rattle.std.proofs.Common.{zero, suc, Bool, true, false, ltb, eqb, eq-eqb, ne_eqb, ◌≡◌, ◌≢◌, ◌⊎◌, inl, inr, ℕ, ◌+◌, ◌*◌, ◌<◌, ◌≤◌, List, [], ◌∷◌, ◌++◌, length, get_or, set, sym, refl, ap, ◌∙◌, subst, ⊎_elim, arith, cond, Option, Some, None, IsSomeAnd, slice_index_or, length-set, length-append, get_or-set_other, get_or-set_same}
+use Rattle.std.proofs.Common.{zero, suc, Bool, true, false, ltb, eqb, eq-eqb, ne_eqb, ◌≡◌, ◌≢◌, ◌⊎◌, inl, inr, ℕ, ◌+◌, ◌*◌, ◌<◌, ◌≤◌, List, [], ◌∷◌, ◌++◌, length, get_or, set, sym, refl, ap, ◌∙◌, subst, ⊎_elim, arith, cond, Option, Some, None, IsNone, IsSomeAnd, slice_index_or, length-set, length-append, get_or-set_other, get_or-set_same}
 use mathlib.Core.Option.{none, some, some-injective, some-ne-none}
 use mathlib.Core.Logic.{dite}
 use native.Mathlib.Decide.{ℕ_discrete}
@@ -12,21 +12,31 @@ use Rattle.ft_shared.specs.declared.law.Opening.{Opening}
 use Rattle.ft_shared.specs.declared.law.PlacedVersion.{PlacedVersion}
 use Rattle.ft_shared.specs.declared.law.TakenVersion.{TakenVersion}
 use Rattle.ft_shared.specs.declared.law.WordRead.{WordRead}
+use Rattle.ft_shared.specs.declared.law.Notes.{Notes}
 use Rattle.ft_shared.specs.declared.law.Hold.{Hold}
 use Rattle.ft_shared.specs.declared.law.Slot.{Slot}
 use Rattle.ft_shared.specs.declared.law.Account.{Account}
 use Rattle.ft_shared.specs.declared.law.View.{View}
 use Rattle.ft_shared.specs.declared.law.View.TheVariants.{Spent, Reader, Writer}
 use Rattle.ft_shared.specs.Layout.{current_word, slot_in, root_in, count_in}
-use Rattle.ft_shared.specs.Counts.{bit, sum_below, pass_sum, one, has_number, grip, grip_of, holders}
+use Rattle.ft_shared.specs.Counts.{bit, sum_below, pass_sum, one, has_number, grip, grip_of, holders, pin_amount}
 use Rattle.ft_shared.specs.History.{placed_at, IsReadable, Agrees, IsHistory}
 use Rattle.ft_shared.specs.Account.{slot_at, no_slot, account_of, after_clear, after_publish}
 use Rattle.ft_shared.specs.Register.{TableState, SeatView, Stands, Fits, amount, scan_count, marks, RegisterRule}
 use Rattle.ft_shared.specs.Plays.{IsClear, IsPublish}
 use Rattle.ft_shared.proofs.Sums.{at-le, index-le, set-keeps, slot-of, root-of, count-of, amount-le, sum_below-le, all-but-one}
-use Rattle.ft_shared.proofs.Segments.{is_there, some_is, placed_grows, placed_new, still_there, segments_still, segments_seat, segments_published}
+use Rattle.ft_shared.proofs.Segments.{is_there, some_is, placed_grows, placed_none, placed_new, still_there, segments_still, segments_seat, segments_published}
 use Rattle.ft_shared.proofs.Readers.{count-le, word-there, stands_behind}
 use Rattle.ft_shared.proofs.Writes.{stands_still, seats_still, sum_still, true-false}
+
+-- a history that grows agrees with what it agreed with
+pub agrees_longer : (h more : List PlacedVersion) (n : Notes) → Agrees h n → Agrees (h ++ more) n
+agrees_longer h more n a = record {
+  looks = λ i x l. let v = a.looks i x l in ap is_there (placed_grows h more (get_or n.looks i x) v) ∙ v;
+  takes = λ i x l. let t : TakenVersion = get_or n.takes i x in still_there h more t.version (λ placed. placed.root ≡ t.root) (a.takes i x l);
+  held = λ t e. still_there h more t.version (λ placed. placed.root ≡ t.root) (a.held t e);
+  reads = λ i x l. let r : WordRead = get_or n.reads i x in still_there h more r.version (λ placed. IsReadable placed r.pin r.segment → word_at placed.pool r.segment r.at ≡ r.word) (a.reads i x l);
+}
 
 module _ (key : Opening) where
   -- the leavers of a free slot go to 0
@@ -72,10 +82,10 @@ module _ (key : Opening) where
             (amount-le (eqb j a.slot) (slot_at a j).free (ltb j (length a.scan)) (holders j views) (holders j state.views) (λ e. let h = same j in omega arith))) in omega arith;
         count = (sum_still key state id a b at refl one ∙ rule.count.0, rule.count.1);
         numbers = λ n. sum_still key state id a b at refl (has_number n) ∙ rule.numbers n;
-        unpinned = λ i l. get_or-set_other state.words (k + 1) (key.sizes.readers + 3 + i) 0 0 (omega arith) ∙ rule.unpinned i l;
+        pins = λ r c lr lc. let q : ℕ = r * key.sizes.channels in get_or-set_other state.words (k + 1) (key.sizes.readers + 3 + (q + c)) 0 0 (omega arith) ∙ (rule.pins r c lr lc ∙ sym (sum_still key state id a b at refl (pin_amount r c)));
         stored = (rule.stored.0, λ i. let p : ℕ = key.sizes.readers * key.sizes.channels in get_or-set_other state.words (k + 1) (key.sizes.readers + 3 + p + i) 0 0 (omega arith) ∙ rule.stored.1 i);
         segments = segments_seat key.sizes state.views a b id at refl
-            (segments_still key.sizes state.views a b refl refl refl refl versions (λ j l. rule.segments.answers j l ∙ (λ i. cond (sym (frees j) i) None (Some (sym (versions j) i)))) rule.segments);
+            (segments_still key.sizes state.views a b refl refl refl refl refl versions (λ j l. rule.segments.answers j l ∙ (λ i. cond (sym (frees j) i) None (Some (sym (versions j) i)))) rule.segments.order rule.segments.scanned rule.segments);
         settled = λ i x e. stands_still key a b (slice_index_or a.settled i x) refl versions refl (rule.settled i x e);
         each_seat = seats_still key state rule id writes b refl versions refl;
       }
@@ -126,14 +136,6 @@ module _ (key : Opening) where
         latest = subst (λ (o : Option PlacedVersion). IsSomeAnd o (λ placed. placed.root ≡ next)) (sym (placed_new h p (λ n x e. unplaced h first last root is n x e))) refl;
       }
 
-  agrees_longer : (h : List PlacedVersion) (p : PlacedVersion) (g : Hold) → Agrees h g.notes → Agrees (h ++ p ∷ []) g.notes
-  agrees_longer h p g a = record {
-    looks = λ i x l. let v = a.looks i x l in ap is_there (placed_grows h p (get_or g.notes.looks i x) v) ∙ v;
-    takes = λ i x l. let t : TakenVersion = get_or g.notes.takes i x in still_there h p t.version (λ placed. placed.root ≡ t.root) (a.takes i x l);
-    held = λ t e. still_there h p t.version (λ placed. placed.root ≡ t.root) (a.held t e);
-    reads = λ i x l. let r : WordRead = get_or g.notes.reads i x in still_there h p r.version (λ placed. IsReadable placed r.pin r.segment → word_at placed.pool r.segment r.at ≡ r.word) (a.reads i x l);
-  }
-
   -- the slots after a publish: the chosen one, and the others
   version-else : (a : Account) (k root n j : ℕ) → j ≢ k → (slot_at (after_publish a k root n) j).version ≡ (slot_at a j).version
   version-else a k root n j ne =
@@ -173,7 +175,7 @@ module _ (key : Opening) where
     past = let l = f.past in omega arith;
     recent = λ v e. let l = f.recent v e in omega arith;
     borne = λ t e. let b = f.borne t e in (b.0, version-else a k root n h.slot (grip-zero k h.slot h.notes.held t empty e) ∙ b.1);
-    agrees = agrees_longer a.history (record { version = a.version + 1; root = root; pool = a.pool }) h f.agrees;
+    agrees = agrees_longer a.history (record { version = a.version + 1; root = root; pool = a.pool } ∷ []) h.notes f.agrees;
   }
 
   -- no pass holds a slot that was found free
@@ -231,7 +233,7 @@ module _ (key : Opening) where
         scanned = λ t. absurd (true-false (sym t));
         count = (sum_still key state id a b at refl one ∙ rule.count.0, rule.count.1);
         numbers = λ m. sum_still key state id a b at refl (has_number m) ∙ rule.numbers m;
-        unpinned = λ i l. get_or-set_other state.words 0 (key.sizes.readers + 3 + i) new 0 (omega arith) ∙ rule.unpinned i l;
+        pins = λ r c lr lc. let q : ℕ = r * key.sizes.channels in get_or-set_other state.words 0 (key.sizes.readers + 3 + (q + c)) new 0 (omega arith) ∙ (rule.pins r c lr lc ∙ sym (sum_still key state id a b at refl (pin_amount r c)));
         stored = (rule.stored.0, λ i. let p : ℕ = key.sizes.readers * key.sizes.channels in get_or-set_other state.words 0 (key.sizes.readers + 3 + p + i) new 0 (omega arith) ∙ rule.stored.1 i);
         segments = segments_seat key.sizes state.views a b id at refl
             (segments_published key.sizes state.views a k root n (unplaced a.history key.version a.version a.root rule.history) (version-else a k root n) (ap (λ (z : Slot). z.version) is)
@@ -256,6 +258,8 @@ module _ (key : Opening) where
       let at' : get_elem? state.views id ≡ some (Writer e) = at ∙ ap some is in
       let same : (e ≡ rule.account) × (id ≡ rule.writer) = rule.each_seat id (Writer e) at' in
       let most : n ≤ key.sizes.readers = let c = count-le key state rule rule.account.slot in let o = ap count_in rule.current ∙ count-of rule.account.version rule.account.slot rule.account.root (holders rule.account.slot state.views) (omega arith) in omega arith in
+      let fresh : IsNone (placed_at e.history (e.version + 1)) = subst (λ (z : Account). IsNone (placed_at z.history (z.version + 1))) (sym same.0)
+      (ap is_there (placed_none rule.account.history (rule.account.version + 1) (unplaced rule.account.history key.version rule.account.version rule.account.root rule.history))) in
       let readers : e.sizes.readers ≡ key.sizes.readers = ap (λ (z : Account). z.sizes.readers) same.0 ∙ ap (λ (z : Sizes). z.readers) rule.told in (
         Writer (after_publish e k root n),
         keeps,
@@ -263,7 +267,7 @@ module _ (key : Opening) where
         subst (λ (z : Account). get_elem? state.views id ≡ some (Writer z) → (slot_at z k).free ≡ true → (slot_at z k).start ≡ 0 → z.version + 1 < 4294967296
             → RegisterRule key record { words = set state.words 0 (current_word (z.version + 1) k root 0); homes = state.homes; views = set state.views id (Writer (after_publish z k root n)) }) (sym same.0)
             (λ t f b r. published_at state rule id k root t same.1 inside f b r fits) at' free bare room,
-        ((λ i. (Writer (after_publish e (sym (slot-of (e.version + 1) k root 0 (omega arith) fits (omega arith)) i) (sym (root-of (e.version + 1) k root 0 (omega arith) fits (omega arith)) i) n), me.1)), omega arith, refl),
+        ((λ i. (Writer (after_publish e (sym (slot-of (e.version + 1) k root 0 (omega arith) fits (omega arith)) i) (sym (root-of (e.version + 1) k root 0 (omega arith) fits (omega arith)) i) n), me.1)), omega arith, fresh, refl),
       )
 
 -- a slot below n that is free, or none is

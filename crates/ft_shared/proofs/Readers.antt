@@ -1,5 +1,5 @@
 -- A reader's steps keep the rule.
-use Rattle.std.proofs.Common.{true, ltb, false-eqb, ◌≡◌, ◌≢◌, ℕ, ◌+◌, ◌*◌, ◌%◌, ◌^◌, ◌<◌, ◌≤◌, eqb, List, [], ◌∷◌, length, get_or, set, sym, refl, ap, ◌∙◌, subst, ⊎_elim, arith, Option, Some, None, All, IsSomeAnd, length-set, get_or-set_other, get_or-set_same, eq-eqb, ne_eqb}
+use Rattle.std.proofs.Common.{true, ltb, false-eqb, ◌≡◌, ◌≢◌, ℕ, ◌+◌, ◌*◌, ◌%◌, ◌^◌, ◌<◌, ◌≤◌, eqb, List, [], ◌∷◌, length, get_or, set, sym, refl, ap, ◌∙◌, subst, ⊎_elim, arith, Option, Some, None, All, IsSomeAnd, slice_index_or, cond, length-set, get_or-set_other, get_or-set_same, eq-eqb, ne_eqb}
 use Rattle.std.proofs.lemmas.List.Elements.{All-append, All-contains}
 use Rattle.std.specs.List.{Contains}
 use mathlib.Core.Option.{none, some}
@@ -19,18 +19,18 @@ use Rattle.ft_shared.specs.declared.law.Hold.{Hold}
 use Rattle.ft_shared.specs.declared.law.Account.{Account}
 use Rattle.ft_shared.specs.declared.law.View.{View}
 use Rattle.ft_shared.specs.declared.law.View.TheVariants.{Spent, Reader, Writer}
-use Rattle.ft_shared.specs.Layout.{current_word, segment_at, version_in, slot_in, root_in}
-use Rattle.ft_shared.specs.Counts.{bit, sum_below, pass_sum, one, has_number, grip, grip_of, holders, IsBehind}
+use Rattle.ft_shared.specs.Layout.{current_word, pin_at, pool_at, segment_at, version_in, slot_in, root_in}
+use Rattle.ft_shared.specs.Counts.{bit, total, sum_below, pass_sum, one, has_number, grip, grip_of, holders, IsBehind, pin_word, pin_amount}
 use Rattle.ft_shared.specs.History.{placed_at, place_of, HasVersion, HasTakenVersion, HasRead}
 use Rattle.ft_shared.specs.Account.{slot_at, hold_of}
-use Rattle.ft_shared.specs.Segments.{IsAsPlaced, IsUnwritten, IsKept}
+use Rattle.ft_shared.specs.Segments.{IsAsPlaced, IsUnwritten, IsKept, ArePinsScanned}
 use Rattle.ft_shared.specs.Register.{TableState, SeatView, Stands, Fits, scan_count, RegisterRule}
 use Rattle.ft_shared.specs.Pass.{held_read}
 use Rattle.ft_shared.specs.Plays.{after_look, after_take, after_word, after_leave, IsLook, IsTake, IsWordRead, IsLeave}
 use Rattle.ft_shared.proofs.Sums.{total-set, total-le, all_one, passes-le, version-of, slot-of, root-of, amount-le, sum_below-le}
 use Rattle.ft_shared.proofs.Segments.{some_is, some_then, segments_reader}
 
-all_none : {A : Type 0} (P : A → Type 0) → All P []
+pub all_none : {A : Type 0} (P : A → Type 0) → All P []
 all_none P k d l = absurd (omega arith)
 
 none_some : {A : Type 0} (x : A) → None ≡ Some x → ⊥
@@ -92,16 +92,27 @@ module _ (key : Opening) where
       let c = sum_below-le (scan_count d views) (scan_count d state.views) (key.sizes.readers + 2)
       (λ k l. amount-le (eqb k d.slot) (slot_at d k).free (ltb k (length d.scan)) (holders k views) (holders k state.views) (λ e. less k (false-eqb k d.slot (sym e)))) in omega arith
 
+  -- the pin words, where neither they nor the reader's pins change
+  pub pins_still : (state : TableState) (rule : RegisterRule key state) (id : ℕ) (h h' : Hold) (words : List ℕ) → get_elem? state.views id ≡ some (Reader h)
+      → h'.notes.number ≡ h.notes.number → h'.notes.pins ≡ h.notes.pins
+      → ((r c : ℕ) → r < key.sizes.readers → c < key.sizes.channels → get_or words (pin_at key.sizes r c) 0 ≡ get_or state.words (pin_at key.sizes r c) 0)
+      → (r c : ℕ) → r < key.sizes.readers → c < key.sizes.channels → get_or words (pin_at key.sizes r c) 0 ≡ total (pass_sum (pin_amount r c)) (set state.views id (Reader h'))
+  pins_still state rule id h h' words at number pins same r c lr lc =
+      let e = total-set (pass_sum (pin_amount r c)) state.views id (Reader h) (Reader h') at in
+      let m : pin_amount r c h' ≡ pin_amount r c h = λ i. cond (eqb (number i) r) (pin_word (slice_index_or (pins i) c None)) 0 in
+      same r c lr lc ∙ (rule.pins r c lr lc ∙ omega arith)
+
   -- the reader at the seat id goes from h to h', and the words become ws
-  reader_step : (state : TableState) (rule : RegisterRule key state) (id : ℕ) (h h' : Hold) (words : List ℕ) → get_elem? state.views id ≡ some (Reader h) → length words ≡ length state.words
-      → h'.notes.number ≡ h.notes.number → Stands key rule.account h' → IsKept rule.account h'
-      → ((i : ℕ) → key.sizes.readers + 3 ≤ i → get_or words i 0 ≡ get_or state.words i 0)
+  pub reader_step : (state : TableState) (rule : RegisterRule key state) (id : ℕ) (h h' : Hold) (words : List ℕ) → get_elem? state.views id ≡ some (Reader h) → length words ≡ length state.words
+      → h'.notes.number ≡ h.notes.number → Stands key rule.account h' → IsKept rule.account h' → ArePinsScanned rule.account h'
+      → ((i : ℕ) → get_or words (pool_at key.sizes + i) 0 ≡ get_or state.words (pool_at key.sizes + i) 0)
+      → ((r c : ℕ) → r < key.sizes.readers → c < key.sizes.channels → get_or words (pin_at key.sizes r c) 0 ≡ total (pass_sum (pin_amount r c)) (set state.views id (Reader h')))
       → get_or words 0 0 ≡ current_word rule.account.version rule.account.slot rule.account.root (holders rule.account.slot (set state.views id (Reader h')))
       → get_or words (rule.account.slot + 1) 0 ≡ 0
       → ((k : ℕ) → k < key.sizes.readers + 2 → k ≢ rule.account.slot → (slot_at rule.account k).start ≡ get_or words (k + 1) 0 + holders k (set state.views id (Reader h')))
       → ((k : ℕ) → k ≢ rule.account.slot → holders k (set state.views id (Reader h')) ≤ holders k state.views)
       → RegisterRule key record { words = words; homes = state.homes; views = set state.views id (Reader h') }
-  reader_step state rule id h h' words at wide number stands kept beyond current fresh leavers less = record {
+  reader_step state rule id h h' words at wide number stands kept met beyond pins current fresh leavers less = record {
     writer = rule.writer;
     account = rule.account;
     few = rule.few;
@@ -119,9 +130,9 @@ module _ (key : Opening) where
     scanned = λ b. fewer state rule (set state.views id (Reader h')) less b;
     count = (let e = total-set (pass_sum one) state.views id (Reader h) (Reader h') at in let b = rule.count in omega arith, rule.count.1);
     numbers = λ n. let e = total-set (pass_sum (has_number n)) state.views id (Reader h) (Reader h') at in let m : has_number n h' ≡ has_number n h = ap (λ (k : ℕ). bit (eqb k n)) number in let b = rule.numbers n in omega arith;
-    unpinned = λ i l. beyond (key.sizes.readers + 3 + i) (omega arith) ∙ rule.unpinned i l;
-    stored = (rule.stored.0, λ i. let p : ℕ = key.sizes.readers * key.sizes.channels in beyond (key.sizes.readers + 3 + p + i) (omega arith) ∙ rule.stored.1 i);
-    segments = segments_reader key.sizes state.views rule.account id h' kept rule.segments;
+    pins = pins;
+    stored = (rule.stored.0, λ i. beyond i ∙ rule.stored.1 i);
+    segments = segments_reader key.sizes state.views rule.account id h' kept met rule.segments;
     settled = rule.settled;
     each_seat = λ j v e. ⊎_elim (λ (t : (j ≡ id) × (Reader h' ≡ v)). subst (Fits key rule.account rule.writer j) t.1 stands)
         (λ (t : (j ≢ id) × (get_elem? state.views j ≡ some v)). rule.each_seat j v t.1) (at_set state.views id j (Reader h') v e);
@@ -136,6 +147,7 @@ module _ (key : Opening) where
       let a : Account = rule.account in
       let now : version_in w ≡ a.version = version-now state rule in
       let mine = rule.each_seat id (Reader h) at' in
+      let kept = rule.segments.kept id (Reader h) h at' refl in
       let past : h.notes.seen ≤ a.version = mine.past in
       let last = rule.history.latest in
       let same : (k : ℕ) → holders k (set state.views id (Reader h')) ≡ holders k state.views = λ k. let e = total-set (pass_sum (grip_of k)) state.views id (Reader h) (Reader h') at' in omega arith in (
@@ -155,8 +167,9 @@ module _ (key : Opening) where
                 reads = mine.agrees.reads;
               };
             })
-            (record { held = (rule.segments.kept id (Reader h) h at' refl).held })
-            (λ i l. refl)
+            (record { held = kept.held; wide = kept.wide; pins = kept.pins })
+            (rule.segments.scanned id (Reader h) h at' refl)
+            (λ i. refl) (pins_still state rule id h h' state.words at' refl refl (λ r c lr lc. refl))
             (rule.current ∙ ap (current_word a.version a.slot a.root) (sym (same a.slot))) rule.fresh
             (λ k l ne. rule.leavers k l ne ∙ ap (λ (n : ℕ). get_or state.words (k + 1) 0 + n) (sym (same k)))
             (λ k ne. let e = same k in omega arith)),
@@ -175,6 +188,7 @@ module _ (key : Opening) where
       let there : slot_in w ≡ a.slot = slot-now state rule in
       let root : root_in w ≡ a.root = root-now state rule in
       let mine = rule.each_seat id (Reader h) at' in
+      let kept = rule.segments.kept id (Reader h) h at' refl in
       let past : h.notes.seen ≤ a.version = mine.past in
       let ranges = rule.ranges in
       let few = rule.few in
@@ -206,8 +220,11 @@ module _ (key : Opening) where
                 reads = mine.agrees.reads;
               };
             })
-            (record { held = λ (g : TakenVersion) e. let same : t ≡ g = cc in subst (λ (z : TakenVersion). IsUnwritten a z.version) same (subst (IsUnwritten a) (sym now) rule.segments.current) })
-            (λ i l. get_or-set_other state.words 0 i ((w + 1) % 2 ^ 64) 0 (omega arith))
+            (record { held = λ (g : TakenVersion) e. let same : t ≡ g = cc in subst (λ (z : TakenVersion). IsUnwritten a z.version) same (subst (IsUnwritten a) (sym now) rule.segments.current); wide = kept.wide; pins = kept.pins })
+            (rule.segments.scanned id (Reader h) h at' refl)
+            (λ i. let q : ℕ = key.sizes.readers * key.sizes.channels in get_or-set_other state.words 0 (key.sizes.readers + 3 + q + i) ((w + 1) % 2 ^ 64) 0 (omega arith))
+            (pins_still state rule id h h' (set state.words 0 ((w + 1) % 2 ^ 64)) at' refl refl
+            (λ r c lr lc. let q : ℕ = r * key.sizes.channels in get_or-set_other state.words 0 (key.sizes.readers + 3 + (q + c)) ((w + 1) % 2 ^ 64) 0 (omega arith)))
             (get_or-set_same state.words 0 ((w + 1) % 2 ^ 64) 0 (word-there state rule 0 (omega arith)) ∙ next)
             (get_or-set_other state.words 0 (a.slot + 1) ((w + 1) % 2 ^ 64) 0 (omega arith) ∙ rule.fresh)
             (λ k l ne. rule.leavers k l ne ∙ cc (else k ne, get_or-set_other state.words 0 (k + 1) ((w + 1) % 2 ^ 64) 0 (omega arith)))
@@ -248,8 +265,9 @@ module _ (key : Opening) where
                     (held_reads a h s place w few mine.agrees.held kept.held found h.notes.held refl);
               };
             })
-            (record { held = kept.held })
-            (λ i l. refl)
+            (record { held = kept.held; wide = kept.wide; pins = kept.pins })
+            (rule.segments.scanned id (Reader h) h at' refl)
+            (λ i. refl) (pins_still state rule id h h' state.words at' refl refl (λ r c lr lc. refl))
             (rule.current ∙ ap (current_word a.version a.slot a.root) (sym (same a.slot))) rule.fresh
             (λ k l ne. rule.leavers k l ne ∙ ap (λ (n : ℕ). get_or state.words (k + 1) 0 + n) (sym (same k)))
             (λ k ne. let e = same k in omega arith)),
@@ -266,6 +284,7 @@ module _ (key : Opening) where
       let a : Account = rule.account in
       let views : List View = set state.views id (Reader h') in
       let mine = rule.each_seat id (Reader h) at' in
+      let kept = rule.segments.kept id (Reader h) h at' refl in
       let past : v ≤ a.version = mine.recent v saw in
       let borne = mine.borne t has in
       let bears = rule.bears in
@@ -291,8 +310,11 @@ module _ (key : Opening) where
               borne = λ (g : TakenVersion) e. absurd (none_some g e);
               agrees = record { looks = mine.agrees.looks; takes = mine.agrees.takes; held = λ (g : TakenVersion) e. absurd (none_some g e); reads = mine.agrees.reads };
             })
-            (record { held = λ (g : TakenVersion) e. absurd (none_some g e) })
-            (λ i l. get_or-set_other state.words (h.slot + 1) i ((w + 1) % 2 ^ 64) 0 (omega arith))
+            (record { held = λ (g : TakenVersion) e. absurd (none_some g e); wide = kept.wide; pins = kept.pins })
+            (rule.segments.scanned id (Reader h) h at' refl)
+            (λ i. let q : ℕ = key.sizes.readers * key.sizes.channels in get_or-set_other state.words (h.slot + 1) (key.sizes.readers + 3 + q + i) ((w + 1) % 2 ^ 64) 0 (omega arith))
+            (pins_still state rule id h h' (set state.words (h.slot + 1) ((w + 1) % 2 ^ 64)) at' refl refl
+            (λ r c lr lc. let q : ℕ = r * key.sizes.channels in get_or-set_other state.words (h.slot + 1) (key.sizes.readers + 3 + (q + c)) ((w + 1) % 2 ^ 64) 0 (omega arith)))
             (get_or-set_other state.words (h.slot + 1) 0 ((w + 1) % 2 ^ 64) 0 (omega arith) ∙ (rule.current ∙ ap (current_word a.version a.slot a.root) (sym (else a.slot (λ e. apart (sym e))))))
             (get_or-set_other state.words (h.slot + 1) (a.slot + 1) ((w + 1) % 2 ^ 64) 0 (λ e. apart (omega arith)) ∙ rule.fresh)
             (λ k l ne. dite (ℕ_discrete k h.slot)

@@ -1,10 +1,10 @@
 -- The writer's steps keep the rule.
-use Rattle.std.proofs.Common.{zero, suc, Bool, true, false, cond, ltb, eqb, false-eqb, true-eqb, lt-ltb, le-ltb, eq-eqb, ◌==◌, ◌≡◌, ◌≢◌, ℕ, ◌+◌, ◌<◌, ◌≤◌, List, [], ◌∷◌, ◌++◌, length, get_or, set, sym, refl, ap, ◌∙◌, subst, ⊎_elim, arith, Some, None, All, slice_index_or, length-set, length-append, get_or-set_other, get_or-set_same}
+use Rattle.std.proofs.Common.{replicate, Option, inl, ◌⊎◌, zero, suc, Bool, true, false, cond, ltb, eqb, false-eqb, true-eqb, lt-ltb, le-ltb, eq-eqb, ◌==◌, ◌≡◌, ◌≢◌, ℕ, ◌+◌, ◌<◌, ◌≤◌, List, [], ◌∷◌, ◌++◌, length, get_or, set, sym, refl, ap, ◌∙◌, subst, ⊎_elim, arith, Some, None, All, slice_index_or, length-set, length-append, get_or-set_other, get_or-set_same}
 use Rattle.std.proofs.lemmas.List.{get_or_append_left, get_or_push}
 use mathlib.Core.Option.{none, some}
 use mathlib.Core.Logic.{dite}
 use native.Mathlib.Decide.{ℕ_discrete}
-use lib.ListN.{get_elem?}
+use lib.ListN.{get_elem?, length-replicate}
 use lib.Seq.{set-get_or}
 use Rattle.atomic_table.specs.Table.{step, keeps, Allows, Splits}
 use Rattle.atomic_table.proofs.Lists.{at_set, at_snoc}
@@ -12,20 +12,21 @@ use Rattle.ft_shared.specs.declared.law.Sizes.{Sizes}
 use Rattle.ft_shared.specs.declared.law.Opening.{Opening}
 use Rattle.ft_shared.specs.declared.law.PlacedVersion.{PlacedVersion}
 use Rattle.ft_shared.specs.declared.law.TakenVersion.{TakenVersion}
+use Rattle.ft_shared.specs.declared.law.Pin.{Pin}
 use Rattle.ft_shared.specs.declared.law.Hold.{Hold}
 use Rattle.ft_shared.specs.declared.law.Slot.{Slot}
 use Rattle.ft_shared.specs.declared.law.Account.{Account}
 use Rattle.ft_shared.specs.declared.law.View.{View}
 use Rattle.ft_shared.specs.declared.law.View.TheVariants.{Spent, Reader, Writer}
 use Rattle.ft_shared.specs.Layout.{current_word}
-use Rattle.ft_shared.specs.Counts.{total, sum_below, pass_sum, one, has_number, grip_of, holders}
+use Rattle.ft_shared.specs.Counts.{total, sum_below, pass_sum, one, has_number, grip_of, holders, IsBehind, pin_word, pin_amount}
 use Rattle.ft_shared.specs.History.{HasVersion, HasTakenVersion, HasRead, Agrees}
 use Rattle.ft_shared.specs.Account.{slot_at, no_slot, account_of, new_notes, is_free, answer_of, after_begin, after_scan}
-use Rattle.ft_shared.specs.Segments.{slot_answer}
+use Rattle.ft_shared.specs.Segments.{ArePinsScanned, slot_answer}
 use Rattle.ft_shared.specs.Register.{TableState, SeatView, Stands, Fits, amount, scan_count, marks, RegisterRule}
 use Rattle.ft_shared.specs.Plays.{after_give, given_pass, IsScanBegin, IsSlotScan}
 use Rattle.ft_shared.proofs.Sums.{total-set, total-append, set-keeps, numbers-more, amount-le, amount-new, amount-here, amount-scan, amount-met, ltb-next, sum_below-le, holding-sum_below}
-use Rattle.ft_shared.proofs.Segments.{segments_still, segments_seat, segments_more}
+use Rattle.ft_shared.proofs.Segments.{no-answer, segments_still, segments_seat, segments_more}
 use Rattle.ft_shared.proofs.Readers.{fewer}
 
 none_some : {A : Type 0} (x : A) → None ≡ Some x → ⊥
@@ -43,6 +44,18 @@ same-le n = omega arith
 
 all_none : {A : Type 0} (P : A → Type 0) → All P []
 all_none P k d l = absurd (omega arith)
+
+-- a pass that was never used has no pin
+pub no-pin : (n c : ℕ) (pin : Pin) → (let z : Option Pin = None in slice_index_or (replicate n z) c z ≡ Some pin) → ⊥
+no-pin zero c pin e = none_some pin e
+no-pin (suc n) zero pin e = none_some pin e
+no-pin (suc n) (suc c) pin e = no-pin n c pin e
+
+no-pins : (b : Bool) (n c : ℕ) → (let z : Option Pin = None in cond b (pin_word (slice_index_or (replicate n z) c z)) 0 ≡ 0)
+no-pins false n c = refl
+no-pins true zero c = refl
+no-pins true (suc n) zero = refl
+no-pins true (suc n) (suc c) = no-pins true n c
 
 module _ (key : Opening) where
   -- a pass stands by an account that differs in nothing that it rests on
@@ -101,10 +114,11 @@ module _ (key : Opening) where
         scanned = λ c. fewer key state rule (views ++ Reader h ∷ []) (λ k ne. let e = holds k in omega arith) c;
         count = (let x = more one in let c = rule.count in omega arith, omega arith);
         numbers = λ n. let x = more (has_number n) in let y = rule.numbers n in let z = numbers-more n a.given in omega arith;
-        unpinned = rule.unpinned;
+        pins = λ r c lr lc. let x = more (pin_amount r c) in let y = rule.pins r c lr lc in let z : pin_amount r c h ≡ 0 = no-pins (eqb a.given r) a.sizes.channels c in omega arith;
         stored = rule.stored;
-        segments = segments_more key.sizes views b h (record { held = λ (g : TakenVersion) e. absurd (none_some g e) })
-            (segments_seat key.sizes state.views a b id at refl (segments_still key.sizes state.views a b refl refl refl refl (λ k. refl) rule.segments.answers rule.segments));
+        segments = segments_more key.sizes views b h (record { held = λ (g : TakenVersion) e. absurd (none_some g e); wide = (let z : Option Pin = None in length-replicate a.sizes.channels z); pins = λ c pin e. absurd (no-pin a.sizes.channels c pin e) })
+            (λ c pin e. absurd (no-pin a.sizes.channels c pin e))
+            (segments_seat key.sizes state.views a b id at refl (segments_still key.sizes state.views a b refl refl refl refl refl (λ k. refl) rule.segments.answers rule.segments.order rule.segments.scanned rule.segments));
         settled = λ i x e. stands_still a b (slice_index_or a.settled i x) refl (λ k. refl) refl (rule.settled i x e);
         each_seat = λ j v e. ⊎_elim (λ (t : get_elem? views j ≡ some v). seats_still state rule id writes b refl (λ k. refl) refl j v t)
             (λ (t : Reader h ≡ v). subst (Fits key b rule.writer j) t (record {
@@ -130,22 +144,24 @@ module _ (key : Opening) where
 
   -- nothing changes but the scan and which slots are known to be free
   pub scan_at : (state : TableState) (rule : RegisterRule key state) (id : ℕ) (b : Account) → get_elem? state.views id ≡ some (Writer rule.account) → id ≡ rule.writer
-      → b ≡ record rule.account { slots = b.slots; begun = b.begun; scans = b.scans; scan = b.scan; gone = b.gone; steps = b.steps }
+      → b ≡ record rule.account { slots = b.slots; begun = b.begun; scans = b.scans; scan = b.scan; gone = b.gone; pin_scan = b.pin_scan; pinned = b.pinned; steps = b.steps }
       → length b.slots ≡ 10 → ((k : ℕ) → (slot_at b k).version ≡ (slot_at rule.account k).version) → ((k : ℕ) → (slot_at b k).start ≡ (slot_at rule.account k).start)
       → ((k : ℕ) → (slot_at b k).free ≡ true → (k ≢ rule.account.slot) × (holders k state.views ≡ 0))
       → (b.begun ≡ true → sum_below (scan_count b state.views) (key.sizes.readers + 2) ≤ key.sizes.readers)
       → ((k : ℕ) → k < length b.scan → slice_index_or b.scan k None ≡ slot_answer b k)
+      → (b.pin_scan ≡ []) ⊎ (length b.scan ≡ key.sizes.readers + 2)
+      → ((seat : ℕ) (view : View) (hold : Hold) → get_elem? state.views seat ≡ some view → IsBehind view hold → ArePinsScanned b hold)
       → RegisterRule key record { words = state.words; homes = state.homes; views = set state.views id (Writer b) }
-  scan_at state rule id b at writes is deep versions starts unused told answers =
+  scan_at state rule id b at writes is deep versions starts unused told answers order scanned =
       let a : Account = rule.account in
-      let c : Account = record a { slots = b.slots; begun = b.begun; scans = b.scans; scan = b.scan; gone = b.gone; steps = b.steps } in
+      let c' : Account = record a { slots = b.slots; begun = b.begun; scans = b.scans; scan = b.scan; gone = b.gone; pin_scan = b.pin_scan; pinned = b.pinned; steps = b.steps } in
       subst (λ (z : Account). RegisterRule key record { words = state.words; homes = state.homes; views = set state.views id (Writer z) }) (sym is)
-      (let views : List View = set state.views id (Writer c) in
-      let same : (k : ℕ) → holders k views ≡ holders k state.views = λ k. sum_still state id a c at refl (grip_of k) in
-      let told' : b.begun ≡ true → sum_below (scan_count c state.views) (key.sizes.readers + 2) ≤ key.sizes.readers = λ t. subst (λ (z : Account). sum_below (scan_count z state.views) (key.sizes.readers + 2) ≤ key.sizes.readers) is (told t) in
+      (let views : List View = set state.views id (Writer c') in
+      let same : (k : ℕ) → holders k views ≡ holders k state.views = λ k. sum_still state id a c' at refl (grip_of k) in
+      let told' : b.begun ≡ true → sum_below (scan_count c' state.views) (key.sizes.readers + 2) ≤ key.sizes.readers = λ t. subst (λ (z : Account). sum_below (scan_count z state.views) (key.sizes.readers + 2) ≤ key.sizes.readers) is (told t) in
       record {
         writer = rule.writer;
-        account = c;
+        account = c';
         few = rule.few;
         told = rule.told;
         wide = rule.wide;
@@ -159,15 +175,15 @@ module _ (key : Opening) where
         starts = λ k. let x = starts k in let y = rule.starts k in omega arith;
         unused = λ k e. let u = unused k e in (u.0, same k ∙ u.1);
         scanned = λ t. let x = told' t in
-            let y = sum_below-le (scan_count c views) (scan_count c state.views) (key.sizes.readers + 2)
-            (λ k l. amount-le (eqb k a.slot) (slot_at c k).free (ltb k (length c.scan)) (holders k views) (holders k state.views) (λ e. let h = same k in omega arith)) in omega arith;
-        count = (sum_still state id a c at refl one ∙ rule.count.0, rule.count.1);
-        numbers = λ n. sum_still state id a c at refl (has_number n) ∙ rule.numbers n;
-        unpinned = rule.unpinned;
+            let y = sum_below-le (scan_count c' views) (scan_count c' state.views) (key.sizes.readers + 2)
+            (λ k l. amount-le (eqb k a.slot) (slot_at c' k).free (ltb k (length c'.scan)) (holders k views) (holders k state.views) (λ e. let h = same k in omega arith)) in omega arith;
+        count = (sum_still state id a c' at refl one ∙ rule.count.0, rule.count.1);
+        numbers = λ n. sum_still state id a c' at refl (has_number n) ∙ rule.numbers n;
+        pins = λ r h lr lc. rule.pins r h lr lc ∙ sym (sum_still state id a c' at refl (pin_amount r h));
         stored = rule.stored;
-        segments = segments_seat key.sizes state.views a c id at refl (segments_still key.sizes state.views a c refl refl refl refl versions answers rule.segments);
-        settled = λ i x e. stands_still a c (slice_index_or a.settled i x) refl versions refl (rule.settled i x e);
-        each_seat = seats_still state rule id writes c refl versions refl;
+        segments = segments_seat key.sizes state.views a c' id at refl (segments_still key.sizes state.views a c' refl refl refl refl refl versions answers order scanned rule.segments);
+        settled = λ i x e. stands_still a c' (slice_index_or a.settled i x) refl versions refl (rule.settled i x e);
+        each_seat = seats_still state rule id writes c' refl versions refl;
       })
 
   -- a scan begins: what it counts are the passes that hold a slot
@@ -187,7 +203,8 @@ module _ (key : Opening) where
         tt,
         subst (λ (words : List ℕ). RegisterRule key record { words = words; homes = state.homes; views = set state.views id (Writer (after_begin e)) }) (sym (set-get_or state.words 0 0))
             (subst (λ (z : Account). get_elem? state.views id ≡ some (Writer z) → RegisterRule key record { words = state.words; homes = state.homes; views = set state.views id (Writer (after_begin z)) }) (sym same.0)
-            (λ t. scan_at state rule id (after_begin rule.account) t same.1 refl rule.deep (λ k. refl) (λ k. refl) rule.unused (λ _. begins_at state rule) (λ k l. absurd (omega arith))) at'),
+            (λ t. scan_at state rule id (after_begin rule.account) t same.1 refl rule.deep (λ k. refl) (λ k. refl) rule.unused (λ _. begins_at state rule) (λ k l. absurd (omega arith)) (inl refl)
+            (λ seat view hold there behind channel pin e met. absurd (no-answer (after_begin rule.account) refl hold.notes.number channel met))) at'),
         (refl, refl),
       )
 
@@ -274,13 +291,14 @@ module _ (key : Opening) where
       let longer : length b.scan ≡ next + 1 = length-append a.scan (answer_of a next w ∷ []) in
       let deep = rule.deep in
       let few = rule.few in
+      let none-yet : b.pin_scan ≡ [] = ⊎_elim (λ (none : a.pin_scan ≡ []). none) (λ (all : length a.scan ≡ key.sizes.readers + 2). absurd (omega arith)) rule.segments.order in
       let answers : (k : ℕ) → k < length b.scan → slice_index_or b.scan k None ≡ slot_answer b k = λ k l. dite (ℕ_discrete k next)
       (λ (h : k ≡ next). subst (λ (j : ℕ). slice_index_or b.scan j None ≡ slot_answer b j) (sym h)
       (get_or_push a.scan (answer_of a next w) None next refl ∙ ap (λ (z : Slot). cond z.free None (Some z.version)) (sym (get_or-set_same a.slots next flagged no_slot (omega arith)))))
       (λ (h : k ≢ next). get_or_append_left a.scan (answer_of a next w ∷ []) None k (omega arith)
       ∙ (rule.segments.answers k (omega arith) ∙ ap (λ (z : Slot). cond z.free None (Some z.version)) (sym (get_or-set_other a.slots next k flagged no_slot h)))) in (
         scan_at state rule id b at writes refl (length-set a.slots next flagged ∙ rule.deep)
-            (set-keeps (λ (z : Slot). z.version) a.slots next no_slot flagged refl) (set-keeps (λ (z : Slot). z.start) a.slots next no_slot flagged refl) did.0 (λ _. did.1) answers,
+            (set-keeps (λ (z : Slot). z.version) a.slots next no_slot flagged refl) (set-keeps (λ (z : Slot). z.start) a.slots next no_slot flagged refl) did.0 (λ _. did.1) answers (inl none-yet) (λ seat view hold there behind channel pin e met. absurd (no-answer b none-yet hold.notes.number channel met)),
         did.2,
         λ whole. subst (λ (m : ℕ). sum_below (marks b) (m + 2) ≤ m) (sym n)
             (let x = did.1 in
@@ -299,10 +317,12 @@ module _ (key : Opening) where
       → RegisterRule key record { words = state.words; homes = state.homes; views = set state.views id (Writer (after_scan z (get_or state.words (length z.scan + 1) 0))) }
       × ((slot_at z (length z.scan)).free ≡ true → is_free z (length z.scan) (get_or state.words (length z.scan + 1) 0) ≡ true)
       × (length z.scan + 1 ≡ z.sizes.readers + 2 → sum_below (marks (after_scan z (get_or state.words (length z.scan + 1) 0))) (z.sizes.readers + 2) ≤ z.sizes.readers) in
+      let known = subst (λ (z : Account). length z.scan < z.sizes.readers + 2 → HasVersion z.history (slot_at z (length z.scan)).version) (sym same.0)
+      (λ l. rule.segments.borne (length rule.account.scan) (let n = ap (λ (z : Sizes). z.readers) rule.told in omega arith)) less in
       let did = subst R (sym same.0) (λ t b l. scanned_at state rule id t same.1 b l) at' begun less in (
         Writer (after_scan e (get_or state.words (length e.scan + 1) 0)),
         keeps,
         tt,
         subst (λ (words : List ℕ). RegisterRule key record { words = words; homes = state.homes; views = set state.views id (Writer (after_scan e (get_or state.words (length e.scan + 1) 0))) }) (sym (set-get_or state.words (length e.scan + 1) 0)) did.0,
-        (refl, did.1, did.2, refl),
+        (refl, did.1, did.2, known, refl),
       )

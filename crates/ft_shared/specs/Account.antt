@@ -1,7 +1,8 @@
 -- What the writer and the readers know at first, and what the writer's steps make of it.
-use Rattle.std.specs.Prelude.{◌≡◌, ◌⊎◌, ℕ, ◌+◌, ◌-◌, ◌*◌, ◌==◌, slice_set, slice_index_or, Bool, true, false, if◌then◌else◌, List, [], ◌∷◌, ◌++◌, length, drop, replicate, Option, Some, None, Contains}
+use Rattle.std.specs.Prelude.{◌≡◌, ◌⊎◌, ℕ, ◌+◌, ◌-◌, ◌*◌, ◌<◌, ◌≤◌, ◌==◌, slice_set, slice_index_or, Bool, true, false, if◌then◌else◌, List, [], ◌∷◌, ◌++◌, length, drop, replicate, Option, Some, None, Contains}
 use Rattle.ft_shared.specs.declared.law.Sizes.{Sizes}
 use Rattle.ft_shared.specs.declared.law.Opening.{Opening}
+use Rattle.ft_shared.specs.declared.law.PinAnswer.{PinAnswer}
 use Rattle.ft_shared.specs.declared.law.Notes.{Notes}
 use Rattle.ft_shared.specs.declared.law.Hold.{Hold}
 use Rattle.ft_shared.specs.declared.law.Slot.{Slot}
@@ -9,7 +10,8 @@ use Rattle.ft_shared.specs.declared.law.Account.{Account}
 use Rattle.ft_shared.specs.declared.law.WordStep.TheVariants.{Load, Store, Swap}
 use Rattle.ft_shared.specs.declared.law.View.{View}
 use Rattle.ft_shared.specs.declared.law.View.TheVariants.{Reader, Writer}
-use Rattle.ft_shared.specs.Layout.{current_at, leavers_at, pool_at, segment_at}
+use Rattle.ft_segments.specs.Walk.{sample_walk, sample_uses}
+use Rattle.ft_shared.specs.Layout.{current_at, leavers_at, pin_at, pool_at, segment_at}
 use Rattle.ft_shared.specs.History.{IsOfVersion}
 
 -- ---- slots
@@ -43,6 +45,8 @@ opening_account sizes version root pool = record {
   scans = 0;
   scan = [];
   gone = 0;
+  pin_scan = [];
+  pinned = 0;
   settled = [];
   history = record { version = version; root = root; pool = pool } ∷ [];
   pool = pool;
@@ -63,6 +67,7 @@ new_notes sizes number = record {
   held = None;
   latest = None;
   seen = 0;
+  pins = replicate sizes.channels None;
   looks = [];
   takes = [];
   reads = [];
@@ -98,6 +103,7 @@ after_begin account = record account {
   begun = true;
   scans = account.scans + 1;
   scan = [];
+  pin_scan = [];
   steps = account.steps ++ Load current_at ∷ [];
 }
 
@@ -126,18 +132,51 @@ after_scan account gone = record account {
 }
 
 -- every slot was looked at since a scan began
+abbrev pub SlotsAreMet : Sizes → Account → Type 0
+SlotsAreMet sizes account = (account.begun ≡ true) × (length account.scan ≡ sizes.readers + 2)
+
+-- what the word of a pin says: 0 that there is none, and else its root segment + 1
+abbrev pub pinned_root : ℕ → Option ℕ
+pinned_root word = if word == 0 then None else Some (word - 1)
+
+abbrev pub pin_answer : ℕ → ℕ → Option ℕ → PinAnswer
+pin_answer reader channel root = record { reader = reader; channel = channel; root = root }
+
+-- a pin was looked at by one load of its word, which was this
+abbrev pub after_pin_scan : Account → ℕ → ℕ → ℕ → Account
+after_pin_scan account reader channel word = record account {
+  pin_scan = account.pin_scan ++ pin_answer reader channel (pinned_root word) ∷ [];
+  pinned = word;
+  steps = account.steps ++ Load (pin_at account.sizes reader channel) ∷ [];
+}
+
+-- The scan answered this of the pin
+abbrev pub IsPinAnswer : Account → ℕ → ℕ → Option ℕ → Type 0
+IsPinAnswer account reader channel root =
+    Contains account.pin_scan (pin_answer reader channel root)
+
+-- The scan looked at the pin
+abbrev pub IsPinMet : Account → ℕ → ℕ → Type 0
+IsPinMet account reader channel = (root : Option ℕ) × IsPinAnswer account reader channel root
+
+-- every slot, and then every pin was looked at since a scan began
 abbrev pub IsWhole : Sizes → Account → Type 0
-IsWhole sizes account = (account.begun ≡ true) × (length account.scan ≡ sizes.readers + 2)
+IsWhole sizes account = SlotsAreMet sizes account
+    × ((reader channel : ℕ) → reader < sizes.readers → channel < sizes.channels
+    → IsPinMet account reader channel)
 
 -- A scan answered this version
 abbrev pub IsAnswered : Account → ℕ → Type 0
 IsAnswered account version = Contains account.scan (Some version)
 
--- A scan found the segment: it is one of the current version, or of a version that was answered
+-- A scan found the segment: it is one of the current version, or of a version that was answered, or
+-- a pinned root that was answered names it, by the words last written
 abbrev pub Found : Account → ℕ → Type 0
 Found account segment =
     IsOfVersion account.history account.version segment
     ⊎ ((version : ℕ) × IsAnswered account version × IsOfVersion account.history version segment)
+    ⊎ ((reader channel root : ℕ) × IsPinAnswer account reader channel (Some root)
+    × (1 ≤ sample_uses segment (sample_walk account.pool root)))
 
 -- The pass may fill the segment
 abbrev pub MayFill : Sizes → Account → ℕ → Type 0
@@ -179,6 +218,7 @@ after_publish account slot root count = record account {
       slot (new_slot (account.version + 1));
   begun = false;
   scan = [];
+  pin_scan = [];
   history = account.history
       ++ record { version = account.version + 1; root = root; pool = account.pool } ∷ [];
   steps = account.steps ++ Swap current_at ∷ [];

@@ -14,6 +14,10 @@ leavers_at slot = slot + 1
 abbrev pub pins_at : Sizes → ℕ
 pins_at sizes = sizes.readers + 3
 
+-- the pin word of a reader and a channel
+abbrev pub pin_at : Sizes → ℕ → ℕ → ℕ
+pin_at sizes reader channel = pins_at sizes + (reader * sizes.channels + channel)
+
 -- and then come 256 words for each segment
 abbrev pub pool_at : Sizes → ℕ
 pool_at sizes = sizes.readers + 3 + sizes.readers * sizes.channels

@@ -3,6 +3,7 @@ pub mod Counts
 pub mod History
 pub mod Account
 pub mod Segments
+pub mod HeldSegments
 pub mod Register
 pub mod Plays
 pub mod Pass

@@ -1,14 +1,16 @@
 -- What contracts see of a register and of its passes.
-use Rattle.std.specs.Prelude.{◌≡◌, ◌≢◌, ℕ, zero, suc, ◌+◌, ◌<◌, ◌≤◌, true, false, List, [], ◌∷◌, ◌++◌, Option, Some, None}
+use Rattle.std.specs.Prelude.{◌≡◌, ◌≢◌, ℕ, zero, suc, ◌+◌, ◌<◌, ◌≤◌, true, false, slice_set, List, [], ◌∷◌, ◌++◌, Option, Some, None}
 use Rattle.atomic_table.specs.Seated.{TableId}
 use Rattle.ft_shared.specs.declared.law.Sizes.{Sizes}
 use Rattle.ft_shared.specs.declared.law.TakenVersion.{TakenVersion}
 use Rattle.ft_shared.specs.declared.law.WordRead.{WordRead}
+use Rattle.ft_shared.specs.declared.law.Pin.{Pin}
 use Rattle.ft_shared.specs.declared.law.Notes.{Notes}
 use Rattle.ft_shared.specs.declared.law.Hold.{Hold}
 use Rattle.ft_shared.specs.declared.law.Account.{Account}
-use Rattle.ft_shared.specs.declared.law.WordStep.TheVariants.{Load, Add}
-use Rattle.ft_shared.specs.Layout.{current_at, leavers_at, segment_at}
+use Rattle.ft_shared.specs.declared.law.WordStep.TheVariants.{Load, Store, Add}
+use Rattle.ft_shared.specs.Layout.{current_at, leavers_at, pin_at, segment_at}
+use Rattle.ft_shared.specs.Counts.{pin_of}
 use Rattle.ft_shared.specs.Account.{opening_account, new_notes, slot_at, after_clear, after_publish}
 
 -- Which register it is, and how large. A pass came from the register that it names
@@ -89,6 +91,43 @@ held_read (Some taken) segment at word =
 abbrev pub note_word : Notes → ℕ → ℕ → ℕ → Notes
 note_word notes segment at word = record notes {
   reads = notes.reads ++ held_read notes.held segment at word;
+  steps = notes.steps ++ Load (segment_at notes.sizes segment at) ∷ [];
+}
+
+-- a pin of this root, set from the version that is held
+abbrev pub pin_from : Option TakenVersion → ℕ → Option Pin
+pin_from None root = None
+pin_from (Some taken) root = Some (record { version = taken.version; root = root })
+
+-- the channel's pin names this root from now on, by one store to its word
+abbrev pub note_pin : Notes → ℕ → ℕ → Notes
+note_pin notes channel root = record notes {
+  pins = slice_set notes.pins channel (pin_from notes.held root);
+  steps = notes.steps ++ Store (pin_at notes.sizes notes.number channel) ∷ [];
+}
+
+-- the channel has no pin from now on, by one store to its word
+abbrev pub note_unpin : Notes → ℕ → Notes
+note_unpin notes channel = record notes {
+  pins = slice_set notes.pins channel None;
+  steps = notes.steps ++ Store (pin_at notes.sizes notes.number channel) ∷ [];
+}
+
+-- what is noted of a word that was read by a pin
+abbrev pub pin_read : Option Pin → ℕ → ℕ → ℕ → List WordRead
+pin_read None segment at word = []
+pin_read (Some pin) segment at word = record {
+  version = pin.version;
+  pin = Some pin.root;
+  segment = segment;
+  at = at;
+  word = word;
+} ∷ []
+
+-- the word is noted, with the channel's pin and its version; it is one load of it
+abbrev pub note_pinned_word : Notes → ℕ → ℕ → ℕ → ℕ → Notes
+note_pinned_word notes channel segment at word = record notes {
+  reads = notes.reads ++ pin_read (pin_of notes channel) segment at word;
   steps = notes.steps ++ Load (segment_at notes.sizes segment at) ∷ [];
 }
 

@@ -9,8 +9,8 @@ use Rattle.ft_shared.specs.declared.law.Hold.{Hold}
 use Rattle.ft_shared.specs.declared.law.Account.{Account}
 use Rattle.ft_shared.specs.declared.law.View.{View}
 use Rattle.ft_shared.specs.declared.law.View.TheVariants.{Spent, Reader, Writer}
-use Rattle.ft_shared.specs.Layout.{current_at, current_word, leavers_at, pins_at, pool_at, word_count}
-use Rattle.ft_shared.specs.Counts.{bit, total, sum_below, pass_sum, one, has_number, holders}
+use Rattle.ft_shared.specs.Layout.{current_at, current_word, leavers_at, pin_at, pool_at, word_count}
+use Rattle.ft_shared.specs.Counts.{bit, total, sum_below, pass_sum, one, has_number, holders, pin_amount}
 use Rattle.ft_shared.specs.History.{Agrees, IsHistory}
 use Rattle.ft_shared.specs.Account.{slot_at, next_slot}
 use Rattle.ft_shared.specs.Segments.{SegmentRule}
@@ -82,9 +82,11 @@ pub record RegisterRule (key : Opening) (state : TableState) : Type 0 where
   -- the passes: each number below the passes made is that of one pass, settled ones included, and there is no other number
   pub count : (total (pass_sum one) state.views ≡ account.given) × (account.given ≤ key.sizes.readers)
   pub numbers : (number : ℕ) → total (pass_sum (has_number number)) state.views ≡ bit (nat_lt number account.given)
-  -- no pin stands, and the words of the pool are those last written
-  pub unpinned : (pin : ℕ) → pin < key.sizes.readers * key.sizes.channels
-      → slice_index state.words (pins_at key.sizes + pin) ≡ 0
+  -- the pin words: the pin that the pass with this number has on the channel; 0 where it has none, or there is no such pass
+  pub pins : (reader channel : ℕ) → reader < key.sizes.readers → channel < key.sizes.channels
+      → slice_index state.words (pin_at key.sizes reader channel)
+      ≡ total (pass_sum (pin_amount reader channel)) state.views
+  -- the words of the pool are those last written
   pub stored : (length account.pool ≡ 256 * key.sizes.segments)
       × ((n : ℕ) → slice_index state.words (pool_at key.sizes + n) ≡ slice_index account.pool n)
   pub segments : SegmentRule key.sizes state.views account

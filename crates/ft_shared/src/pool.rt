@@ -6,6 +6,7 @@ ghost use Rattle.ft_shared.specs.Account.{MayFill, after_read, after_fill};
 use crate::plays::{Fill, ReadPool};
 use crate::shared::Shared;
 use crate::writer::WriterPass;
+use ft_segments::held_by_a_pin_is_named;
 
 impl Shared {
     /// The word `at` of the segment `seg` as it was last written. One load.
@@ -29,6 +30,7 @@ impl Shared {
         ensures { pass.new
             ≡ record pass.old { account = after_fill pass.old.account seg at w } }
     {
+        held_by_a_pin_is_named();
         let word = self.word_of(seg, at);
         self.words.store::<Fill>(&mut pass.place, word, w);
     }

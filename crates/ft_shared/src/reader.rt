@@ -23,8 +23,9 @@ pub struct Held {
 /// One reader. At first it holds no version, has noted nothing and was never used.
 #[derive(Drop)]
 pub struct ReaderPass {
-    place: Place,
+    pub(crate) place: Place,
     slot: u8,
+    pub(crate) number: u8,
 }
 
 impl Model for ReaderPass {
@@ -40,12 +41,18 @@ impl Model for ReaderPass {
 }
 
 impl ReaderPass {
-    pub(crate) fn first(place: Place) -> ReaderPass
+    pub(crate) fn first(place: Place, number: u8) -> ReaderPass
         requires role { place.me ≡ (Reader (hold_of place.me.0), []) }
         requires new { (hold_of place.me.0).slot ≡ 0 }
+        requires number { ((hold_of place.me.0).notes.number ≡ number)
+            × (number < (hold_of place.me.0).notes.sizes.readers) }
         ensures { result ≡ reader_at place.table_id (hold_of place.me.0) }
     {
-        ReaderPass { place, slot: 0 }
+        ReaderPass {
+            place,
+            slot: 0,
+            number,
+        }
     }
 }
 

@@ -1,4 +1,5 @@
 use Rattle.std.proofs.Common.{◌≡◌, None}
+use Rattle.ft_segments.specs.Packing.{word_at}
 use Rattle.ft_bench_register.proofs.turn_often.Given as goal
 
 abbrev pub invariant-loop-done : goal.invariant-loop-done
@@ -7,4 +8,5 @@ invariant-loop-done g l = record {
   reader : l.reader.register ≡ l.fn.reader.register;
   version : l.writer.account.version ≡ l._done;
   free : l.reader.notes.held ≡ None;
+  bare : word_at l.writer.account.pool 0 1 ≡ 0;
 }

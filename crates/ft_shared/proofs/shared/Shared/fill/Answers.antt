@@ -26,7 +26,7 @@ store-requires c =
       search rules,
       subst (λ (n : ℕ). c.word_of-word.result < n) (ap word_count (sym (ap (λ o. o.sizes) c.self.view_is)) ∙ sym c.self.invariant.0) c.word_of-word.ensures.inside,
       subst (λ (n : ℕ). Allows (RegisterRule key) slots w.place.id w.place.me n (λ _. c.args.w) (λ _. IsFill (step slots n c.args.w 0 none) w.place.me c.args.w)) word
-          (fills key slots w.place.id c.args.seg c.args.at c.args.w w.place.me (ap (λ m. m.0) c.pass.invariant.seat) c.ranges.at.fits inside may),
+          (fills key c.held_by_a_pin_is_named.ensures slots w.place.id c.args.seg c.args.at c.args.w w.place.me (ap (λ m. m.0) c.pass.invariant.seat) c.ranges.at.fits inside may),
     )
 
 pub invariant_of-pass : goal.invariant_of-pass

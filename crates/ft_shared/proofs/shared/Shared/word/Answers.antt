@@ -34,4 +34,4 @@ invariant_of-pass g c =
     c.word_of-word.ensures.number ∙ ap (λ (z : Sizes). segment_at z c.args.seg c.args.at) (sym sizes) in
     let b = after_word h c.args.seg c.args.at c.load.result in
     let now = c.load.ensures.seat.2 c.args.seg c.args.at c.ranges.at.fits word in
-    reader_still p (record { place = c.load.new.place; slot = p.slot }) b c.pass.invariant (now ∙ ap (λ m. (Reader b, m.1)) c.pass.invariant.seat) refl refl
+    reader_still p (record { place = c.load.new.place; slot = p.slot; number = p.number }) b c.pass.invariant (now ∙ ap (λ m. (Reader b, m.1)) c.pass.invariant.seat) refl refl refl
