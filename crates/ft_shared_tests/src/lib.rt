@@ -7,3 +7,5 @@ mod author;
 mod rows;
 #[cfg(test)]
 mod scans;
+#[cfg(test)]
+mod threads;

@@ -103,7 +103,7 @@ fn a_held_version_keeps_its_slot_and_its_segment(rt: HostRuntime) -> Result<(), 
 
 /// Whether the words of the segment are those of a version of `publish_next`, by the pin of
 /// channel 0.
-fn pin_shows<L: Ledger>(
+pub fn pin_shows<L: Ledger>(
     shared: &Shared,
     reader: &mut ReaderPass,
     seg: u16,
@@ -123,7 +123,7 @@ fn pin_shows<L: Ledger>(
 }
 
 /// The same by the held version.
-fn version_shows<L: Ledger>(
+pub fn version_shows<L: Ledger>(
     shared: &Shared,
     reader: &mut ReaderPass,
     seg: u16,
