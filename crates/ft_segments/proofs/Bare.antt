@@ -12,7 +12,8 @@ song-bare pool root segment e = subst (λ (w : ℕ).
     + sum_by (instrument_uses segment) (each_below (digit 65536 w 1) (λ i. instrument_walk pool (id_at pool root 104 i)))
     ≡ is_it segment root) (sym e) (omega arith)
 
-pub sample-bare : (pool : List ℕ) (root segment : ℕ) → word_at pool root 0 ≡ 0 → sample_uses segment (sample_walk pool root) ≡ is_it segment root
+pub sample-bare : (pool : List ℕ) (root segment : ℕ) → word_at pool root 0 ≡ 0
+    → sample_uses segment (sample_walk pool root) ≡ is_it segment root
 unfolding sample_walk
 sample-bare pool root segment e = subst (λ (w : ℕ).
     is_it segment root

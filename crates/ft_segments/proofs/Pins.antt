@@ -35,8 +35,11 @@ index-found p root k index e =
     let all : List IndexIds = each_below n (index_at p root) in
     let long : length all ≡ n = length-map-range_with_len (index_at p root) 0 n in
     let l : k < length all = slice_get_within all k index e in
-    let inside : k < n = omega arith in
-    (inside, sym (get_or-map-range_with_len (index_at p root) 0 n k k index inside (omega arith)) ∙ get_or_from_slice_get all k index index e)
+    let inside : k < n = omega arith in (
+      inside,
+      sym (get_or-map-range_with_len (index_at p root) 0 n k k index inside (omega arith))
+          ∙ get_or_from_slice_get all k index index e,
+    )
 
 index-used : (q : List ℕ) (root k s : ℕ) → k < pieces_of (bodies_in q root) 1024 → 1 ≤ index_uses s (index_at q root k)
     → 1 ≤ sample_uses s (sample_walk q root)
@@ -48,7 +51,8 @@ index-used q root k s inside used =
     let here : get_or all k (index_at q root k) ≡ index_at q root k =
     get_or-map-range_with_len (index_at q root) 0 n k k (index_at q root k) inside (omega arith) in
     let same : index_uses s (get_or all k (index_at q root k)) ≡ index_uses s (index_at q root k) = ap (index_uses s) here in
-    let sum : index_uses s (get_or all k (index_at q root k)) ≤ sum_by (index_uses s) all = at-sum (index_uses s) all k (index_at q root k) (omega arith) in
+    let sum : index_uses s (get_or all k (index_at q root k)) ≤ sum_by (index_uses s) all = at-sum (index_uses s) all k
+    (index_at q root k) (omega arith) in
     omega arith
 
 root-used : (q : List ℕ) (root s : ℕ) → s ≡ root → 1 ≤ sample_uses s (sample_walk q root)
@@ -63,7 +67,8 @@ body-used p q index count j s same few inside e =
     let long : length all ≡ count = length-map-range_with_len (λ i. id_at q index 0 i) 0 count in
     let word : word_at q index (0 + j / 4) ≡ word_at p index (0 + j / 4) = same (0 + j / 4) (omega arith) in
     let here : get_or all j s ≡ id_at q index 0 j = get_or-map-range_with_len (λ i. id_at q index 0 i) 0 count j j s inside (omega arith) in
-    let there : get_or (index_walk p count index).bodies j s ≡ id_at p index 0 j = get_or-map-range_with_len (λ i. id_at p index 0 i) 0 count j j s inside (omega arith) in
+    let there : get_or (index_walk p count index).bodies j s ≡ id_at p index 0 j = get_or-map-range_with_len
+    (λ i. id_at p index 0 i) 0 count j j s inside (omega arith) in
     let is : s ≡ get_or all j s = sym e ∙ (there ∙ (sym (id-same p q index 0 j word) ∙ sym here)) in
     let one : is_it s (get_or all j s) ≡ 1 = is-it s (get_or all j s) is in
     let sum : is_it s (get_or all j s) ≤ sum_by (is_it s) all = at-sum (is_it s) all j s (omega arith) in
@@ -85,7 +90,8 @@ index-names placed q root segment k index room same at kept names =
     let index' : index_walk q count id ≡ index_at q root k = λ i. index_walk q (bodies_of_index (sym bodies i) k) (sym ids i) in
     let root' : id ≡ index.root = ap (λ (x : IndexIds). x.root) found.1 in
     let used : 1 ≤ index_uses segment (index_walk q count id) → 1 ≤ sample_uses segment (sample_walk q root) = λ u.
-    index-used q root k segment (subst (λ (b : ℕ). k < pieces_of b 1024) (sym bodies) inside) (subst (λ (x : IndexIds). 1 ≤ index_uses segment x) index' u) in
+    index-used q root k segment (subst (λ (b : ℕ). k < pieces_of b 1024) (sym bodies) inside)
+    (subst (λ (x : IndexIds). 1 ≤ index_uses segment x) index' u) in
     ⊎_elim (λ (e : segment ≡ index.root). used (let one : is_it segment id ≡ 1 = is-it segment id (e ∙ sym root') in omega arith))
     (λ (t : IsOf placed index.root × Contains index.bodies segment). used
     (let c : Contains (index_walk p count id).bodies segment = subst (λ (x : IndexIds). Contains x.bodies segment) (sym found.1) t.1 in
@@ -99,6 +105,7 @@ pub pin-names : (placed : Placed) (q : List ℕ) (root segment : ℕ) → ((held
 pin-names placed q root segment same holds =
     let here : PinHolds placed root root = (holds.0, holds.0, inl refl) in
     ⊎_elim (λ (e : segment ≡ root). root-used q root segment e)
-    (λ (t : (k : ℕ) × (index : IndexIds) × (k < index_room) × (slice_get (sample_walk placed.pool root).indexes k ≡ Some index) × IndexNames placed index segment).
+    (λ (t : (k : ℕ) × (index : IndexIds) × (k < index_room) ×
+    (slice_get (sample_walk placed.pool root).indexes k ≡ Some index) × IndexNames placed index segment).
     index-names placed q root segment t.0 t.1 t.2 (same root here) t.3
     (λ of. same t.1.root (holds.0, of, inr (t.0, t.1, t.2, t.3, inl refl))) t.4) holds.2

@@ -19,7 +19,8 @@ bytes_word bytes k = packed 256 8 (λ i. slice_index bytes (k * 8 + i))
 unfoldable pub ids_word : List ℕ → ℕ → ℕ
 ids_word ids k = packed 65536 4 (λ i. slice_index ids (k * 4 + i))
 
--- a word of a segment by its place, 0 to 255; a pool has 256 words for each segment, from segment 0 on
+-- a word of a segment by its place, 0 to 255; a pool has 256 words for each segment, from segment 0
+-- on
 abbrev pub word_at : List ℕ → ℕ → ℕ → ℕ
 word_at pool segment place = slice_index pool (segment * 256 + place)
 

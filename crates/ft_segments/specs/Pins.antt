@@ -12,7 +12,8 @@ abbrev pub IndexNames : Placed → IndexIds → ℕ → Type 0
 IndexNames placed index segment =
     (segment ≡ index.root) ⊎ (IsOf placed index.root × Contains index.bodies segment)
 
--- The root of a sample names a segment, by the words of the version: itself, an index, or what an index names
+-- The root of a sample names a segment, by the words of the version: itself, an index, or what an
+-- index names
 abbrev pub RootNames : Placed → ℕ → ℕ → Type 0
 RootNames placed root segment =
     (segment ≡ root)

@@ -26,7 +26,8 @@ use Rattle.ft_shared.proofs.Pinned.{answers_held, number-small}
 
 -- the law of the walk: where a pool has the words that a pin holds of a version, the root names them there
 abbrev pub NamesHeld : Type 0
-NamesHeld = (placed : Placed) (pool : List ℕ) (root segment : ℕ) → ((held : ℕ) → PinHolds placed root held → SameWords placed.pool pool held)
+NamesHeld = (placed : Placed) (pool : List ℕ) (root segment : ℕ)
+    → ((held : ℕ) → PinHolds placed root held → SameWords placed.pool pool held)
     → PinHolds placed root segment → 1 ≤ sample_uses segment (sample_walk pool root)
 
 none_some : {A : Type 0} (x : A) → None ≡ Some x → ⊥
@@ -46,8 +47,10 @@ put-there (x ∷ l) (suc k) o pin e = put-there l k o pin e
 module _ (key : Opening) (names : NamesHeld) where
   -- what a pin holds is found
   finds_pinned : (state : TableState) (rule : RegisterRule key state) → IsWhole key.sizes rule.account
-      → (seat : ℕ) (view : View) (hold : Hold) → get_elem? state.views seat ≡ some view → IsBehind view hold → (s channel : ℕ) (pin : Pin) → pin_of hold.notes channel ≡ Some pin
-      → (placed : PlacedVersion) → placed_at rule.account.history pin.version ≡ Some placed → PinHolds (place_of placed) pin.root s → Found rule.account s
+      → (seat : ℕ) (view : View) (hold : Hold) → get_elem? state.views seat ≡ some view → IsBehind view hold → (s channel : ℕ) (pin : Pin)
+      → pin_of hold.notes channel ≡ Some pin
+      → (placed : PlacedVersion) → placed_at rule.account.history pin.version ≡ Some placed → PinHolds (place_of placed) pin.root s
+      → Found rule.account s
   finds_pinned state rule whole seat view hold at behind s channel pin is placed there holds =
       let a : Account = rule.account in
       let kept = rule.segments.kept seat view hold at behind in
@@ -56,32 +59,51 @@ module _ (key : Opening) (names : NamesHeld) where
       let small : hold.notes.number < key.sizes.readers = number-small key state rule seat view hold at behind in
       let less : channel < length hold.notes.pins = has-place hold.notes.pins channel pin is in
       let unwritten : (segment : ℕ) → PinHolds (place_of placed) pin.root segment → IsAsPlaced a placed segment =
-      subst (λ (o : Option PlacedVersion). IfSome o (λ q. (segment : ℕ) → PinHolds (place_of q) pin.root segment → IsAsPlaced a q segment)) there stands.unwritten in
+      subst (λ (o : Option PlacedVersion). IfSome o (λ q. (segment : ℕ) → PinHolds (place_of q) pin.root segment
+      → IsAsPlaced a q segment)) there stands.unwritten in
       ⊎_elim (λ (f : IsPinAnswer a hold.notes.number channel (Some pin.root)).
       inr (inr (hold.notes.number, channel, pin.root, f, names (place_of placed) a.pool pin.root s (λ held h. (unwritten held h).0) holds)))
-      (λ (f : IsAnswered a pin.version). inr (inl (pin.version, f, subst (λ (o : Option PlacedVersion). IsSomeAnd o (λ q. IsOf (place_of q) s)) (sym there) holds.1)))
+      (λ (f : IsAnswered a pin.version). inr (inl (
+        pin.version,
+        f,
+        subst (λ (o : Option PlacedVersion). IsSomeAnd o (λ q. IsOf (place_of q) s)) (sym there) holds.1,
+      )))
       (rule.segments.scanned seat view hold at behind channel pin is (whole.1 hold.notes.number channel small (omega arith)))
 
   -- what a pass holds is found
   pub finds_held_by : (state : TableState) (rule : RegisterRule key state) → IsWhole key.sizes rule.account
-      → (seat : ℕ) (view : View) (hold : Hold) → get_elem? state.views seat ≡ some view → IsBehind view hold → (s : ℕ) → IsHeldBy rule.account.history hold.notes s → Found rule.account s
-  finds_held_by state rule whole seat view hold at behind s (inl (t, has, of)) = inr (inl (t.version, answers_held key state rule whole.0.1 seat view hold at behind t has, of))
-  finds_held_by state rule whole seat view hold at behind s (inr (channel, pin, is, of)) = go (placed_at rule.account.history pin.version) refl of
+      → (seat : ℕ) (view : View) (hold : Hold) → get_elem? state.views seat ≡ some view → IsBehind view hold → (s : ℕ)
+      → IsHeldBy rule.account.history hold.notes s → Found rule.account s
+  finds_held_by state rule whole seat view hold at behind s (inl (t, has, of)) = inr
+      (inl (t.version, answers_held key state rule whole.0.1 seat view hold at behind t has, of))
+  finds_held_by state rule whole seat view hold at behind s (inr (channel, pin, is, of)) = go
+      (placed_at rule.account.history pin.version) refl of
     where
-      go : (o : Option PlacedVersion) → placed_at rule.account.history pin.version ≡ o → IsSomeAnd o (λ q. PinHolds (place_of q) pin.root s) → Found rule.account s
+      go : (o : Option PlacedVersion) → placed_at rule.account.history pin.version ≡ o
+          → IsSomeAnd o (λ q. PinHolds (place_of q) pin.root s) → Found rule.account s
       go None e holds = absurd holds
       go (Some placed) e holds = finds_pinned state rule whole seat view hold at behind s channel pin is placed e holds
 
   -- a whole scan finds each held segment
-  pub finds_each_held : (state : TableState) (rule : RegisterRule key state) → IsWhole key.sizes rule.account → (s : ℕ) → IsHeld rule.account state.views s → Found rule.account s
+  pub finds_each_held : (state : TableState) (rule : RegisterRule key state) → IsWhole key.sizes rule.account → (s : ℕ)
+      → IsHeld rule.account state.views s → Found rule.account s
   finds_each_held state rule whole s (inl of) = inl of
-  finds_each_held state rule whole s (inr (seat, view, hold, at, behind, held)) = finds_held_by state rule whole seat view hold at behind s held
+  finds_each_held state rule whole s (inr (
+    seat,
+    view,
+    hold,
+    at,
+    behind,
+    held,
+  )) = finds_held_by state rule whole seat view hold at behind s held
 
 -- ---- until the next publish
 
 -- a take holds what is of the current version
-pub take_adds : (a : Account) (n : Notes) (t : TakenVersion) (s : ℕ) → t.version ≡ a.version → IsHeldBy a.history (note_take n t) s → IsHeldBy a.history n s ⊎ Found a s
-take_adds a n t s is (inl (u, has, of)) = let same : t ≡ u = cc in inr (inl (subst (λ (v : ℕ). IsOfVersion a.history v s) (sym (ap (λ (z : TakenVersion). z.version) same) ∙ is) of))
+pub take_adds : (a : Account) (n : Notes) (t : TakenVersion) (s : ℕ) → t.version ≡ a.version → IsHeldBy a.history (note_take n t) s
+    → IsHeldBy a.history n s ⊎ Found a s
+take_adds a n t s is (inl (u, has, of)) = let same : t ≡ u = cc in
+    inr (inl (subst (λ (v : ℕ). IsOfVersion a.history v s) (sym (ap (λ (z : TakenVersion). z.version) same) ∙ is) of))
 take_adds a n t s is (inr pinned) = inl (inr pinned)
 
 -- a pin holds what is of a version that was held
@@ -89,10 +111,12 @@ pub pin_adds : (a : Account) (n : Notes) (channel root s : ℕ) → ((t : TakenV
     → IsHeldBy a.history (note_pin n channel root) s → IsHeldBy a.history n s ⊎ Found a s
 pin_adds a n channel root s answered (inl held) = inl (inl held)
 pin_adds a n channel root s answered (inr (c, pin, is, of)) = dite (ℕ_discrete c channel)
-    (λ (e : c ≡ channel). inr (here n.held refl pin (put-there n.pins channel (pin_from n.held root) pin (subst (λ (k : ℕ). pin_of (note_pin n channel root) k ≡ Some pin) e is)) of))
+    (λ (e : c ≡ channel). inr (here n.held refl pin (put-there n.pins channel (pin_from n.held root) pin
+    (subst (λ (k : ℕ). pin_of (note_pin n channel root) k ≡ Some pin) e is)) of))
     (λ (e : c ≢ channel). inl (inr (c, pin, sym (get_or-set_other n.pins channel c (pin_from n.held root) None e) ∙ is, of)))
   where
-    some-of : (o : Option PlacedVersion) (root : ℕ) → IsSomeAnd o (λ q. PinHolds (place_of q) root s) → IsSomeAnd o (λ q. IsOf (place_of q) s)
+    some-of : (o : Option PlacedVersion) (root : ℕ) → IsSomeAnd o (λ q. PinHolds (place_of q) root s)
+        → IsSomeAnd o (λ q. IsOf (place_of q) s)
     some-of None root h = absurd h
     some-of (Some q) root h = h.1
 

@@ -43,29 +43,40 @@ drop-front (x ∷ xs) ys zero e = absurd (omega arith)
 drop-front (x ∷ xs) ys (suc n) e = drop-front xs ys n (omega arith)
 
 pub pool-length : (segments : ℕ) (words : List ℕ) → length words ≤ 256 * segments → length (pool_of segments words) ≡ 256 * segments
-pool-length segments words fits = let z : ℕ = 0 in let a = length-append words (replicate (256 * segments - length words) z) in let b : length (replicate (256 * segments - length words) z) ≡ 256 * segments - length words = length-replicate (256 * segments - length words) z in omega arith
+pool-length segments words fits = let z : ℕ = 0 in let a = length-append words (replicate (256 * segments - length words) z) in
+    let b : length (replicate (256 * segments - length words) z) ≡ 256 * segments - length words = length-replicate
+    (256 * segments - length words) z in omega arith
 
 module _ (key : Opening) where
   abbrev front : List ℕ
   front = current_word key.version 0 key.root 0 ∷ replicate (pool_at key.sizes - 1) 0
 
   front-length : length front ≡ pool_at key.sizes
-  front-length = let z : ℕ = 0 in let p : ℕ = key.sizes.readers * key.sizes.channels in let e : length (replicate (pool_at key.sizes - 1) z) ≡ key.sizes.readers + 3 + p - 1 = length-replicate (pool_at key.sizes - 1) z in omega arith
+  front-length = let z : ℕ = 0 in let p : ℕ = key.sizes.readers * key.sizes.channels in
+      let e : length (replicate (pool_at key.sizes - 1) z) ≡ key.sizes.readers + 3 + p - 1 = length-replicate (pool_at key.sizes - 1) z in
+      omega arith
 
   -- the pool is what lies behind the first words
   pub opening-pool : (pool : List ℕ) → drop (pool_at key.sizes) (front ++ pool) ≡ pool
   opening-pool pool = drop-front front pool (pool_at key.sizes) front-length
 
-  pub opens : (ws pool : List ℕ) → key.sizes.readers ≤ 8 → key.version < 4294967296 → key.root < 65536 → length pool ≡ 256 * key.sizes.segments → key.words.value.items ≡ ws
-      → ws ≡ (current_word key.version 0 key.root 0 ∷ replicate (pool_at key.sizes - 1) 0) ++ pool → RegisterRule key (opening ws [] (Writer (first_account key)))
+  pub opens : (ws pool : List ℕ) → key.sizes.readers ≤ 8 → key.version < 4294967296 → key.root < 65536
+      → length pool ≡ 256 * key.sizes.segments → key.words.value.items ≡ ws
+      → ws ≡ (current_word key.version 0 key.root 0 ∷ replicate (pool_at key.sizes - 1) 0) ++ pool
+      → RegisterRule key (opening ws [] (Writer (first_account key)))
   opens ws pool few v r long snap is =
       let p : ℕ = key.sizes.readers * key.sizes.channels in
-      let wide : length ws ≡ pool_at key.sizes + 256 * key.sizes.segments = ap length is ∙ (length-append front pool ∙ (let f = front-length in omega arith)) in
+      let wide : length ws ≡ pool_at key.sizes + 256 * key.sizes.segments = ap length is
+      ∙ (length-append front pool ∙ (let f = front-length in omega arith)) in
       let a : Account = first_account key in
-      let bare : (i : ℕ) → 0 < i → i < key.sizes.readers + 3 + p → get_or ws i 0 ≡ 0 = λ i more less. ap (λ (l : List ℕ). get_or l i 0) is ∙ (get_or_append_left front pool 0 i (let f : length front ≡ key.sizes.readers + 3 + p = front-length in omega arith) ∙ later i more) in
+      let bare : (i : ℕ) → 0 < i → i < key.sizes.readers + 3 + p
+      → get_or ws i 0 ≡ 0 = λ i more less. ap (λ (l : List ℕ). get_or l i 0) is
+      ∙ (get_or_append_left front pool 0 i (let f : length front ≡ key.sizes.readers + 3 + p = front-length in omega arith)
+      ∙ later i more) in
       let y : Slot = record { version = key.version; start = 0; free = false } in
       let p1 : PlacedVersion = record { version = key.version; root = key.root; pool = a.pool } in
-      let here : placed_at a.history key.version ≡ Some p1 = ap (λ (b : Bool). cond b (Some p1) None) (eq-eqb key.version key.version refl) in
+      let here : placed_at a.history key.version ≡ Some p1 = ap (λ (b : Bool). cond b (Some p1) None)
+      (eq-eqb key.version key.version refl) in
       let starts : (k : ℕ) → (slot_at a k).start ≡ 0 = λ k. each-slot (λ (z : Slot). z.start) 0 y 10 k refl refl in
       let frees : (k : ℕ) → (slot_at a k).free ≡ false = λ k. each-slot (λ (z : Slot). z.free) false y 10 k refl refl in
       record {
@@ -90,14 +101,19 @@ module _ (key : Opening) where
         scanned = λ e. absurd (true-false (sym e));
         count = (refl, omega arith);
         numbers = λ n. sym (bit-zero n);
-        pins = λ r c lr lc. bare (key.sizes.readers + 3 + (r * key.sizes.channels + c)) (let q : ℕ = r * key.sizes.channels in omega arith) (let i = pin_inside r key.sizes.readers c key.sizes.channels lr lc in let q : ℕ = r * key.sizes.channels in let i' : q + c < p = i in omega arith);
+        pins = λ r c lr lc. bare (key.sizes.readers + 3 + (r * key.sizes.channels + c))
+            (let q : ℕ = r * key.sizes.channels in omega arith)
+            (let i = pin_inside r key.sizes.readers c key.sizes.channels lr lc in let q : ℕ = r * key.sizes.channels in
+            let i' : q + c < p = i in omega arith);
         stored = (
           length-drop (pool_at key.sizes) key.words.value.items ∙ (let n = ap length snap in omega arith),
-          λ i. ap (λ (l : List ℕ). get_or l (pool_at key.sizes + i) 0) (sym snap) ∙ sym (get_or-drop (pool_at key.sizes) key.words.value.items i 0),
+          λ i. ap (λ (l : List ℕ). get_or l (pool_at key.sizes + i) 0) (sym snap)
+              ∙ sym (get_or-drop (pool_at key.sizes) key.words.value.items i 0),
         );
         segments = record {
           filled = (let z : ℕ = key.version in length-replicate key.sizes.segments z, λ k. filled-le key.version key.sizes.segments k);
-          current = subst (λ (o : Option PlacedVersion). IfSome o (λ placed. (segment : ℕ) → IsOf (place_of placed) segment → IsAsPlaced a placed segment)) (sym here)
+          current = subst (λ (o : Option PlacedVersion). IfSome o
+              (λ placed. (segment : ℕ) → IsOf (place_of placed) segment → IsAsPlaced a placed segment)) (sym here)
               (λ segment of. ((λ place l. refl), filled-at key.version key.sizes.segments segment));
           borne = λ k l. subst (HasVersion a.history) (sym (version-of-slot k (omega arith))) (ap is_there here);
           answers = λ k l. absurd (omega arith);
@@ -127,8 +143,10 @@ module _ (key : Opening) where
       version-of-slot : (k : ℕ) → k < 10 → (slot_at (first_account key) k).version ≡ key.version
       version-of-slot k l = slots-version 10 k l
 
-      no-behind : (seat : ℕ) (view : View) (hold : Hold) → get_elem? (Writer (first_account key) ∷ []) seat ≡ some view → IsBehind view hold → ⊥
-      no-behind zero view hold at behind = let c : Contains [] hold = subst (λ (v : View). IsBehind v hold) (sym (some-injective (Writer (first_account key)) view at)) behind in let l = c.1 in omega arith
+      no-behind : (seat : ℕ) (view : View) (hold : Hold) → get_elem? (Writer (first_account key) ∷ []) seat ≡ some view
+          → IsBehind view hold → ⊥
+      no-behind zero view hold at behind = let c : Contains [] hold = subst (λ (v : View). IsBehind v hold)
+          (sym (some-injective (Writer (first_account key)) view at)) behind in let l = c.1 in omega arith
       no-behind (suc n) view hold at behind = some-ne-none view (sym at)
 
       later : (i : ℕ) → 0 < i → get_or (current_word key.version 0 key.root 0 ∷ replicate (pool_at key.sizes - 1) 0) i 0 ≡ 0
@@ -136,7 +154,8 @@ module _ (key : Opening) where
       later (suc i) more = zeros (pool_at key.sizes - 1) i
 
       first : (n : ℕ) (x : PlacedVersion) → get_elem? ((first_account key).history) n ≡ some x → x.version ≡ key.version + n
-      first zero x e = let v : key.version ≡ x.version = ap (λ (z : PlacedVersion). z.version) (some-injective (record { version = key.version; root = key.root; pool = (first_account key).pool }) x e) in omega arith
+      first zero x e = let v : key.version ≡ x.version = ap (λ (z : PlacedVersion). z.version)
+          (some-injective (record { version = key.version; root = key.root; pool = (first_account key).pool }) x e) in omega arith
       first (suc n) x e = absurd (some-ne-none x (sym e))
 
       seat : (j : ℕ) (w : View) → get_elem? (Writer (first_account key) ∷ []) j ≡ some w → Fits key (first_account key) 0 j w

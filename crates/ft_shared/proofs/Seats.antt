@@ -27,14 +27,24 @@ reader_still pass new h is now slot sizes number =
       seat = reader_seated new.place.me h now;
       slot = ap (λ (z : Hold). z.slot) e ∙ (slot ∙ is.slot);
       inside = subst (λ (z : Sizes). pass.slot < z.readers + 2) (sym (ap (λ (z : Hold). z.notes.sizes) e ∙ sizes)) is.inside;
-      number = (ap (λ (z : Hold). z.notes.number) e ∙ (number ∙ is.number.0), subst (λ (z : Sizes). pass.number < z.readers) (sym (ap (λ (z : Hold). z.notes.sizes) e ∙ sizes)) is.number.1);
+      number = (
+        ap (λ (z : Hold). z.notes.number) e ∙ (number ∙ is.number.0),
+        subst (λ (z : Sizes). pass.number < z.readers) (sym (ap (λ (z : Hold). z.notes.sizes) e ∙ sizes)) is.number.1,
+      );
     }
 
 -- the writer's pass whose account changes in nothing that it keeps beside its seat
 pub writer_still : (pass new : WriterInside) (b : Account) → IsWriterPass pass → new.place.me ≡ (Writer b, [])
-    → b ≡ record (account_in pass) { pin_scan = b.pin_scan; pinned = b.pinned; pool = b.pool; filled = b.filled; steps = b.steps } → IsWriterPass (record pass { place = new.place })
+    → b ≡ record (account_in pass) { pin_scan = b.pin_scan; pinned = b.pinned; pool = b.pool; filled = b.filled; steps = b.steps }
+    → IsWriterPass (record pass { place = new.place })
 writer_still pass new b is now same =
-    let a : Account = record (account_in pass) { pin_scan = b.pin_scan; pinned = b.pinned; pool = b.pool; filled = b.filled; steps = b.steps } in
+    let a : Account = record (account_in pass) {
+      pin_scan = b.pin_scan;
+      pinned = b.pinned;
+      pool = b.pool;
+      filled = b.filled;
+      steps = b.steps;
+    } in
     let e : account_of new.place.me.0 ≡ a = ap (λ (m : SeatView). account_of m.0) now ∙ same in
     record {
       seat = writer_seated new.place.me b now;

@@ -46,26 +46,31 @@ placed_grows [] more v s = absurd (no s)
     no e = cc
 placed_grows (x ∷ xs) more v s = pick (x.version == v) x (placed_at xs v) (placed_at (xs ++ more) v) s (placed_grows xs more v)
   where
-    pick : (b : Bool) (x : PlacedVersion) (o o' : Option PlacedVersion) → IsSome (cond b (Some x) o) → (IsSome o → o' ≡ o) → cond b (Some x) o' ≡ cond b (Some x) o
+    pick : (b : Bool) (x : PlacedVersion) (o o' : Option PlacedVersion) → IsSome (cond b (Some x) o) → (IsSome o → o' ≡ o)
+        → cond b (Some x) o' ≡ cond b (Some x) o
     pick true x o o' s f = refl
     pick false x o o' s f = f s
 
 -- what is so of a version that is there, is so when the history has grown
-pub still_there : (h more : List PlacedVersion) (v : ℕ) (P : PlacedVersion → Type 0) → IsSomeAnd (placed_at h v) P → IsSomeAnd (placed_at (h ++ more) v) P
+pub still_there : (h more : List PlacedVersion) (v : ℕ) (P : PlacedVersion → Type 0) → IsSomeAnd (placed_at h v) P
+    → IsSomeAnd (placed_at (h ++ more) v) P
 still_there h more v P s = subst (λ (o : Option PlacedVersion). IsSomeAnd o P) (sym (placed_grows h more v (some_is (placed_at h v) P s))) s
 
 -- a number that no version has finds none
-pub placed_none : (h : List PlacedVersion) (v : ℕ) → ((n : ℕ) (x : PlacedVersion) → get_elem? h n ≡ some x → x.version ≢ v) → placed_at h v ≡ None
+pub placed_none : (h : List PlacedVersion) (v : ℕ) → ((n : ℕ) (x : PlacedVersion) → get_elem? h n ≡ some x → x.version ≢ v)
+    → placed_at h v ≡ None
 placed_none [] v ne = refl
 placed_none (x ∷ xs) v ne =
     ap (λ (b : Bool). cond b (Some x) (placed_at xs v)) (ne_eqb x.version v (ne 0 x refl)) ∙ placed_none xs v (λ n y e. ne (suc n) y e)
 
 -- a version added behind such a history is found
-pub placed_last : (h : List PlacedVersion) (p : PlacedVersion) (v : ℕ) → IsNone (placed_at h v) → p.version ≡ v → placed_at (h ++ p ∷ []) v ≡ Some p
+pub placed_last : (h : List PlacedVersion) (p : PlacedVersion) (v : ℕ) → IsNone (placed_at h v) → p.version ≡ v
+    → placed_at (h ++ p ∷ []) v ≡ Some p
 placed_last [] p v none is = ap (λ (b : Bool). cond b (Some p) None) (eq-eqb p.version v is)
 placed_last (x ∷ xs) p v none is = pick (x.version == v) x (placed_at xs v) (placed_at (xs ++ p ∷ []) v) none (λ n. placed_last xs p v n is)
   where
-    pick : (b : Bool) (x : PlacedVersion) (o o' : Option PlacedVersion) → IsNone (cond b (Some x) o) → (IsNone o → o' ≡ Some p) → cond b (Some x) o' ≡ Some p
+    pick : (b : Bool) (x : PlacedVersion) (o o' : Option PlacedVersion) → IsNone (cond b (Some x) o) → (IsNone o → o' ≡ Some p)
+        → cond b (Some x) o' ≡ Some p
     pick true x o o' n f = absurd (no n)
       where
         no : true ≡ false → ⊥
@@ -73,7 +78,8 @@ placed_last (x ∷ xs) p v none is = pick (x.version == v) x (placed_at xs v) (p
     pick false x o o' n f = f n
 
 -- a version with a number of its own is found by it
-pub placed_new : (h : List PlacedVersion) (p : PlacedVersion) → ((n : ℕ) (x : PlacedVersion) → get_elem? h n ≡ some x → x.version ≢ p.version) → placed_at (h ++ p ∷ []) p.version ≡ Some p
+pub placed_new : (h : List PlacedVersion) (p : PlacedVersion)
+    → ((n : ℕ) (x : PlacedVersion) → get_elem? h n ≡ some x → x.version ≢ p.version) → placed_at (h ++ p ∷ []) p.version ≡ Some p
 placed_new [] p ne = ap (λ (b : Bool). cond b (Some p) None) (eq-eqb p.version p.version refl)
 placed_new (x ∷ xs) p ne =
     ap (λ (b : Bool). cond b (Some x) (placed_at (xs ++ p ∷ []) p.version)) (ne_eqb x.version p.version (ne 0 x refl))
@@ -81,18 +87,22 @@ placed_new (x ∷ xs) p ne =
 
 -- ---- where the writer's account changes
 
-unwritten_still : (a b : Account) (v : ℕ) → b.history ≡ a.history → b.pool ≡ a.pool → b.filled ≡ a.filled → IsUnwritten a v → IsUnwritten b v
+unwritten_still : (a b : Account) (v : ℕ) → b.history ≡ a.history → b.pool ≡ a.pool → b.filled ≡ a.filled → IsUnwritten a v
+    → IsUnwritten b v
 unwritten_still a b v hs ps fs u =
     let U : List PlacedVersion × List ℕ × List ℕ → Type 0 = λ z. IsUnwritten (record a { history = z.0; pool = z.1; filled = z.2 }) v in
     subst U (λ i. (sym hs i, sym ps i, sym fs i)) u
 
-pin_still : (a b : Account) (pin : Pin) → b.history ≡ a.history → b.pool ≡ a.pool → b.filled ≡ a.filled → IsStanding a pin → IsStanding b pin
+pin_still : (a b : Account) (pin : Pin) → b.history ≡ a.history → b.pool ≡ a.pool → b.filled ≡ a.filled → IsStanding a pin
+    → IsStanding b pin
 pin_still a b pin hs ps fs k =
     let U : List PlacedVersion × List ℕ × List ℕ → Type 0 = λ z. IsStanding (record a { history = z.0; pool = z.1; filled = z.2 }) pin in
-    let moved : IsStanding (record a { history = b.history; pool = b.pool; filled = b.filled }) pin = subst U (λ i. (sym hs i, sym ps i, sym fs i)) k in
+    let moved : IsStanding (record a { history = b.history; pool = b.pool; filled = b.filled }) pin = subst U
+    (λ i. (sym hs i, sym ps i, sym fs i)) k in
     record { small = moved.small; known = moved.known; unwritten = moved.unwritten }
 
-kept_still : (a b : Account) (h : Hold) → b.sizes ≡ a.sizes → b.history ≡ a.history → b.pool ≡ a.pool → b.filled ≡ a.filled → IsKept a h → IsKept b h
+kept_still : (a b : Account) (h : Hold) → b.sizes ≡ a.sizes → b.history ≡ a.history → b.pool ≡ a.pool → b.filled ≡ a.filled → IsKept a h
+    → IsKept b h
 kept_still a b h zs hs ps fs k = record {
   held = λ t e. unwritten_still a b t.version hs ps fs (k.held t e);
   wide = k.wide ∙ ap (λ (z : Sizes). z.channels) (sym zs);
@@ -101,18 +111,24 @@ kept_still a b h zs hs ps fs k = record {
 
 -- no pin was looked at
 pub no-answer : (a : Account) → a.pin_scan ≡ [] → (reader channel : ℕ) → IsPinMet a reader channel → ⊥
-no-answer a none reader channel met = let c : Contains [] (pin_answer reader channel met.0) = subst (λ (l : List PinAnswer). Contains l (pin_answer reader channel met.0)) none met.1 in let l = c.1 in omega arith
+no-answer a none reader channel met = let c : Contains [] (pin_answer reader channel met.0) = subst
+    (λ (l : List PinAnswer). Contains l (pin_answer reader channel met.0)) none met.1 in let l = c.1 in omega arith
 
 module _ (sizes : Sizes) where
   -- an account that differs in nothing that the segments rest on
-  pub segments_still : (views : List View) (a b : Account) → b.sizes ≡ a.sizes → b.history ≡ a.history → b.pool ≡ a.pool → b.filled ≡ a.filled → b.version ≡ a.version
+  pub segments_still : (views : List View) (a b : Account) → b.sizes ≡ a.sizes → b.history ≡ a.history → b.pool ≡ a.pool
+      → b.filled ≡ a.filled → b.version ≡ a.version
       → ((k : ℕ) → (slot_at b k).version ≡ (slot_at a k).version)
       → ((k : ℕ) → k < length b.scan → slice_index_or b.scan k None ≡ slot_answer b k)
       → (b.pin_scan ≡ []) ⊎ (length b.scan ≡ sizes.readers + 2)
       → ((seat : ℕ) (view : View) (hold : Hold) → get_elem? views seat ≡ some view → IsBehind view hold → ArePinsScanned b hold)
       → SegmentRule sizes views a → SegmentRule sizes views b
   segments_still views a b zs hs ps fs vs slots answers order scanned rule = record {
-    filled = (ap length fs ∙ rule.filled.0, λ k. let e : slice_index b.filled k ≡ slice_index a.filled k = ap (λ (l : List ℕ). slice_index l k) fs in let f = rule.filled.1 k in omega arith);
+    filled = (
+      ap length fs ∙ rule.filled.0,
+      λ k. let e : slice_index b.filled k ≡ slice_index a.filled k = ap
+          (λ (l : List ℕ). slice_index l k) fs in let f = rule.filled.1 k in omega arith,
+    );
     current = subst (IsUnwritten b) (sym vs) (unwritten_still a b a.version hs ps fs rule.current);
     borne = λ k l. subst (λ (z : List PlacedVersion × ℕ). HasVersion z.0 z.1) (λ i. (sym hs i, sym (slots k) i)) (rule.borne k l);
     answers = answers;
@@ -122,7 +138,8 @@ module _ (sizes : Sizes) where
   }
 
   -- the writer's seat has the account
-  pub segments_seat : (views : List View) (a b : Account) (id : ℕ) → get_elem? views id ≡ some (Writer a) → b.settled ≡ a.settled → SegmentRule sizes views b → SegmentRule sizes (set views id (Writer b)) b
+  pub segments_seat : (views : List View) (a b : Account) (id : ℕ) → get_elem? views id ≡ some (Writer a) → b.settled ≡ a.settled
+      → SegmentRule sizes views b → SegmentRule sizes (set views id (Writer b)) b
   segments_seat views a b id at same rule = record {
     filled = rule.filled;
     current = rule.current;
@@ -142,7 +159,8 @@ module _ (sizes : Sizes) where
   }
 
   -- a reader's seat has what is kept
-  pub segments_reader : (views : List View) (a : Account) (id : ℕ) (h : Hold) → IsKept a h → ArePinsScanned a h → SegmentRule sizes views a → SegmentRule sizes (set views id (Reader h)) a
+  pub segments_reader : (views : List View) (a : Account) (id : ℕ) (h : Hold) → IsKept a h → ArePinsScanned a h
+      → SegmentRule sizes views a → SegmentRule sizes (set views id (Reader h)) a
   segments_reader views a id h kept met rule = record {
     filled = rule.filled;
     current = rule.current;
@@ -160,7 +178,8 @@ module _ (sizes : Sizes) where
   }
 
   -- one more reader has a seat
-  pub segments_more : (views : List View) (a : Account) (h : Hold) → IsKept a h → ArePinsScanned a h → SegmentRule sizes views a → SegmentRule sizes (views ++ Reader h ∷ []) a
+  pub segments_more : (views : List View) (a : Account) (h : Hold) → IsKept a h → ArePinsScanned a h → SegmentRule sizes views a
+      → SegmentRule sizes (views ++ Reader h ∷ []) a
   segments_more views a h kept met rule = record {
     filled = rule.filled;
     current = rule.current;
@@ -180,32 +199,40 @@ module _ (sizes : Sizes) where
   -- ---- a publish
 
   -- a version of the history stays unwritten when the history grows
-  unwritten_grows : (a b : Account) (p : PlacedVersion) (v : ℕ) → b.history ≡ a.history ++ p ∷ [] → b.pool ≡ a.pool → b.filled ≡ a.filled → HasVersion a.history v → IsUnwritten a v → IsUnwritten b v
+  unwritten_grows : (a b : Account) (p : PlacedVersion) (v : ℕ) → b.history ≡ a.history ++ p ∷ [] → b.pool ≡ a.pool → b.filled ≡ a.filled
+      → HasVersion a.history v → IsUnwritten a v → IsUnwritten b v
   unwritten_grows a b p v hs ps fs there u =
       let c : Account = record a { history = a.history ++ p ∷ [] } in
-      unwritten_still c b v hs ps fs (subst (λ (o : Option PlacedVersion). IfSome o (λ placed. (segment : ℕ) → IsOf (place_of placed) segment → IsAsPlaced a placed segment)) (sym (placed_grows a.history (p ∷ []) v there)) u)
+      unwritten_still c b v hs ps fs (subst (λ (o : Option PlacedVersion). IfSome o
+      (λ placed. (segment : ℕ) → IsOf (place_of placed) segment → IsAsPlaced a placed segment))
+      (sym (placed_grows a.history (p ∷ []) v there)) u)
 
   -- a pin stands when the history grows
-  standing_grows : (a b : Account) (p : PlacedVersion) (pin : Pin) → b.history ≡ a.history ++ p ∷ [] → b.pool ≡ a.pool → b.filled ≡ a.filled → IsStanding a pin → IsStanding b pin
+  standing_grows : (a b : Account) (p : PlacedVersion) (pin : Pin) → b.history ≡ a.history ++ p ∷ [] → b.pool ≡ a.pool
+      → b.filled ≡ a.filled → IsStanding a pin → IsStanding b pin
   standing_grows a b p pin hs ps fs k =
       let c : Account = record a { history = a.history ++ p ∷ [] } in
       let grows : placed_at c.history pin.version ≡ placed_at a.history pin.version = placed_grows a.history (p ∷ []) pin.version k.known in
       pin_still c b pin hs ps fs (record {
         small = k.small;
         known = subst (λ (o : Option PlacedVersion). IsSome o) (sym grows) k.known;
-        unwritten = subst (λ (o : Option PlacedVersion). IfSome o (λ placed. (segment : ℕ) → PinHolds (place_of placed) pin.root segment → IsAsPlaced a placed segment)) (sym grows) k.unwritten;
+        unwritten = subst (λ (o : Option PlacedVersion). IfSome o
+            (λ placed. (segment : ℕ) → PinHolds (place_of placed) pin.root segment → IsAsPlaced a placed segment)) (sym grows) k.unwritten;
       })
 
   -- the new version is the words as they are
-  unwritten_new : (a b : Account) (p : PlacedVersion) → placed_at b.history p.version ≡ Some p → p.pool ≡ b.pool → ((k : ℕ) → slice_index b.filled k ≤ p.version) → IsUnwritten b p.version
-  unwritten_new a b p new pool fs = subst (λ (o : Option PlacedVersion). IfSome o (λ placed. (segment : ℕ) → IsOf (place_of placed) segment → IsAsPlaced b placed segment)) (sym new)
+  unwritten_new : (a b : Account) (p : PlacedVersion) → placed_at b.history p.version ≡ Some p → p.pool ≡ b.pool
+      → ((k : ℕ) → slice_index b.filled k ≤ p.version) → IsUnwritten b p.version
+  unwritten_new a b p new pool fs = subst (λ (o : Option PlacedVersion). IfSome o
+      (λ placed. (segment : ℕ) → IsOf (place_of placed) segment → IsAsPlaced b placed segment)) (sym new)
       (λ segment of. ((λ place l. ap (λ (ws : List ℕ). word_at ws segment place) (sym pool)), fs segment))
 
   pub segments_published : (views : List View) (a : Account) (k root n : ℕ)
       → ((m : ℕ) (x : PlacedVersion) → get_elem? a.history m ≡ some x → x.version ≢ a.version + 1)
       → ((j : ℕ) → j ≢ k → (slot_at (after_publish a k root n) j).version ≡ (slot_at a j).version)
       → (slot_at (after_publish a k root n) k).version ≡ a.version + 1
-      → ((seat : ℕ) (view : View) (hold : Hold) → get_elem? views seat ≡ some view → IsBehind view hold → (t : TakenVersion) → hold.notes.held ≡ Some t → HasVersion a.history t.version)
+      → ((seat : ℕ) (view : View) (hold : Hold) → get_elem? views seat ≡ some view → IsBehind view hold → (t : TakenVersion)
+      → hold.notes.held ≡ Some t → HasVersion a.history t.version)
       → SegmentRule sizes views a → SegmentRule sizes views (after_publish a k root n)
   segments_published views a k root n apart else here known rule =
       let b : Account = after_publish a k root n in
@@ -217,12 +244,14 @@ module _ (sizes : Sizes) where
         borne = λ j l. dite (ℕ_discrete j k)
             (λ (e : j ≡ k). subst (λ (i : ℕ). HasVersion b.history (slot_at b i).version) (sym e)
             (subst (HasVersion b.history) (sym here) (ap is_there new)))
-            (λ (e : j ≢ k). subst (HasVersion b.history) (sym (else j e)) (ap is_there (placed_grows a.history (p ∷ []) (slot_at a j).version (rule.borne j l)) ∙ rule.borne j l));
+            (λ (e : j ≢ k). subst (HasVersion b.history) (sym (else j e))
+            (ap is_there (placed_grows a.history (p ∷ []) (slot_at a j).version (rule.borne j l)) ∙ rule.borne j l));
         answers = λ j l. absurd (omega arith);
         order = inl refl;
         scanned = λ seat view hold at behind channel pin e met. absurd (no-answer b refl hold.notes.number channel met);
         kept = λ seat view hold at behind. record {
-          held = λ t e. unwritten_grows a b p t.version refl refl refl (known seat view hold at behind t e) ((rule.kept seat view hold at behind).held t e);
+          held = λ t e. unwritten_grows a b p t.version refl refl refl (known seat view hold at behind t e)
+              ((rule.kept seat view hold at behind).held t e);
           wide = (rule.kept seat view hold at behind).wide;
           pins = λ channel pin e. standing_grows a b p pin refl refl refl ((rule.kept seat view hold at behind).pins channel pin e);
         };
@@ -231,17 +260,21 @@ module _ (sizes : Sizes) where
   -- ---- a fill
 
   -- the words of other segments stay
-  filled_else : (a : Account) (s at w segment : ℕ) (placed : PlacedVersion) → at < 256 → segment ≢ s → IsAsPlaced a placed segment → IsAsPlaced (after_fill a s at w) placed segment
+  filled_else : (a : Account) (s at w segment : ℕ) (placed : PlacedVersion) → at < 256 → segment ≢ s → IsAsPlaced a placed segment
+      → IsAsPlaced (after_fill a s at w) placed segment
   filled_else a s at w segment placed few ne is = (
     λ place l. get_or-set_other a.pool (s * 256 + at) (segment * 256 + place) w 0 (λ e. ne (omega arith)) ∙ is.0 place l,
-    (let e : slice_index (set a.filled s (a.version + 1)) segment ≡ slice_index a.filled segment = get_or-set_other a.filled s segment (a.version + 1) 0 ne in let f = is.1 in omega arith),
+    (let e : slice_index (set a.filled s (a.version + 1)) segment ≡ slice_index a.filled segment = get_or-set_other a.filled s segment
+        (a.version + 1) 0 ne in let f = is.1 in omega arith),
   )
 
   -- a version that the segment isn't of stays unwritten
-  unwritten_else : (a : Account) (s at w v : ℕ) → at < 256 → (IsOfVersion a.history v s → ⊥) → IsUnwritten a v → IsUnwritten (after_fill a s at w) v
+  unwritten_else : (a : Account) (s at w v : ℕ) → at < 256 → (IsOfVersion a.history v s → ⊥) → IsUnwritten a v
+      → IsUnwritten (after_fill a s at w) v
   unwritten_else a s at w v few apart u = go (placed_at a.history v) apart u
     where
-      go : (o : Option PlacedVersion) → (IsSomeAnd o (λ placed. IsOf (place_of placed) s) → ⊥) → IfSome o (λ placed. (segment : ℕ) → IsOf (place_of placed) segment → IsAsPlaced a placed segment)
+      go : (o : Option PlacedVersion) → (IsSomeAnd o (λ placed. IsOf (place_of placed) s) → ⊥)
+          → IfSome o (λ placed. (segment : ℕ) → IsOf (place_of placed) segment → IsAsPlaced a placed segment)
           → IfSome o (λ placed. (segment : ℕ) → IsOf (place_of placed) segment → IsAsPlaced (after_fill a s at w) placed segment)
       go None apart u = tt
       go (Some p) apart u = λ segment of. filled_else a s at w segment p few (λ e. apart (subst (IsOf (place_of p)) e of)) (u segment of)
@@ -256,22 +289,29 @@ module _ (sizes : Sizes) where
     unwritten = go (placed_at a.history pin.version) refl k.unwritten;
   }
     where
-      go : (o : Option PlacedVersion) → placed_at a.history pin.version ≡ o → IfSome o (λ placed. (segment : ℕ) → PinHolds (place_of placed) pin.root segment → IsAsPlaced a placed segment)
-          → IfSome o (λ placed. (segment : ℕ) → PinHolds (place_of placed) pin.root segment → IsAsPlaced (after_fill a s at w) placed segment)
+      go : (o : Option PlacedVersion) → placed_at a.history pin.version ≡ o
+          → IfSome o (λ placed. (segment : ℕ) → PinHolds (place_of placed) pin.root segment → IsAsPlaced a placed segment)
+          → IfSome o (λ placed. (segment : ℕ) → PinHolds (place_of placed) pin.root segment
+          → IsAsPlaced (after_fill a s at w) placed segment)
       go None e u = tt
-      go (Some p) e u = λ segment holds. filled_else a s at w segment p few (λ same. apart p e (subst (PinHolds (place_of p) pin.root) same holds)) (u segment holds)
+      go (Some p) e u = λ segment holds. filled_else a s at w segment p few
+          (λ same. apart p e (subst (PinHolds (place_of p) pin.root) same holds)) (u segment holds)
 
   pub segments_filled : (views : List View) (a : Account) (s at w : ℕ) → at < 256 → (IsOfVersion a.history a.version s → ⊥)
-      → ((seat : ℕ) (view : View) (hold : Hold) → get_elem? views seat ≡ some view → IsBehind view hold → (t : TakenVersion) → hold.notes.held ≡ Some t → IsOfVersion a.history t.version s → ⊥)
-      → ((seat : ℕ) (view : View) (hold : Hold) → get_elem? views seat ≡ some view → IsBehind view hold → (channel : ℕ) (pin : Pin) → pin_of hold.notes channel ≡ Some pin
+      → ((seat : ℕ) (view : View) (hold : Hold) → get_elem? views seat ≡ some view → IsBehind view hold → (t : TakenVersion)
+      → hold.notes.held ≡ Some t → IsOfVersion a.history t.version s → ⊥)
+      → ((seat : ℕ) (view : View) (hold : Hold) → get_elem? views seat ≡ some view → IsBehind view hold → (channel : ℕ) (pin : Pin)
+      → pin_of hold.notes channel ≡ Some pin
       → (placed : PlacedVersion) → placed_at a.history pin.version ≡ Some placed → PinHolds (place_of placed) pin.root s → ⊥)
       → SegmentRule sizes views a → SegmentRule sizes views (after_fill a s at w)
   segments_filled views a s at w few apart free unpinned rule = record {
     filled = (
       length-set a.filled s (a.version + 1) ∙ rule.filled.0,
       λ k. dite (ℕ_discrete k s)
-          (λ (e : k ≡ s). subst (λ (j : ℕ). slice_index (set a.filled s (a.version + 1)) j ≤ a.version + 1) (sym e) (set-le a.filled s (a.version + 1) (a.version + 1) (omega arith)))
-          (λ (e : k ≢ s). let o : slice_index (set a.filled s (a.version + 1)) k ≡ slice_index a.filled k = get_or-set_other a.filled s k (a.version + 1) 0 e in let f = rule.filled.1 k in omega arith),
+          (λ (e : k ≡ s). subst (λ (j : ℕ). slice_index (set a.filled s (a.version + 1)) j ≤ a.version + 1) (sym e)
+          (set-le a.filled s (a.version + 1) (a.version + 1) (omega arith)))
+          (λ (e : k ≢ s). let o : slice_index (set a.filled s (a.version + 1)) k ≡ slice_index a.filled k = get_or-set_other a.filled s k
+          (a.version + 1) 0 e in let f = rule.filled.1 k in omega arith),
     );
     current = unwritten_else a s at w a.version few apart rule.current;
     borne = rule.borne;
@@ -279,9 +319,11 @@ module _ (sizes : Sizes) where
     order = rule.order;
     scanned = rule.scanned;
     kept = λ seat view hold there behind. record {
-      held = λ t e. unwritten_else a s at w t.version few (free seat view hold there behind t e) ((rule.kept seat view hold there behind).held t e);
+      held = λ t e. unwritten_else a s at w t.version few (free seat view hold there behind t e)
+          ((rule.kept seat view hold there behind).held t e);
       wide = (rule.kept seat view hold there behind).wide;
-      pins = λ channel pin e. standing_else a s at w pin few (unpinned seat view hold there behind channel pin e) ((rule.kept seat view hold there behind).pins channel pin e);
+      pins = λ channel pin e. standing_else a s at w pin few (unpinned seat view hold there behind channel pin e)
+          ((rule.kept seat view hold there behind).pins channel pin e);
     };
   }
     where

@@ -43,7 +43,8 @@ module _ {A : Type 0} where
   all_one P x p (suc k) d h = absurd (omega arith)
 
   -- what the new element has of g, the old one had
-  pub set-keeps : {B : Type 0} (g : A → B) (l : List A) (k : ℕ) (d y : A) → g y ≡ g (get_or l k d) → (j : ℕ) → g (get_or (set l k y) j d) ≡ g (get_or l j d)
+  pub set-keeps : {B : Type 0} (g : A → B) (l : List A) (k : ℕ) (d y : A) → g y ≡ g (get_or l k d) → (j : ℕ)
+      → g (get_or (set l k y) j d) ≡ g (get_or l j d)
   set-keeps g [] k d y e j = refl
   set-keeps g (x ∷ xs) zero d y e zero = e
   set-keeps g (x ∷ xs) zero d y e (suc j) = refl
@@ -77,7 +78,8 @@ module _ {A : Type 0} (f w : A → ℕ) where
   zero_total still (x ∷ xs) z = let a = still x (omega arith) in let b = zero_total still xs (omega arith) in omega arith
 
   -- where all weigh at most 1, the one that weighs counts for all
-  pub only_at : ((a : A) → w a ≡ 0 → f a ≡ 0) → (l : List A) (i : ℕ) (v : A) → get_elem? l i ≡ some v → total w l ≤ 1 → 1 ≤ w v → total f l ≡ f v
+  pub only_at : ((a : A) → w a ≡ 0 → f a ≡ 0) → (l : List A) (i : ℕ) (v : A) → get_elem? l i ≡ some v → total w l ≤ 1 → 1 ≤ w v
+      → total f l ≡ f v
   only_at still [] i v e most more = absurd (some-ne-none v (sym e))
   only_at still (x ∷ xs) zero v e most more =
       let is : x ≡ v = some-injective x v e in
@@ -87,7 +89,8 @@ module _ {A : Type 0} (f w : A → ℕ) where
       let l = at-le w xs i v e in
       let zero = still x (omega arith) in let r = only_at still xs i v e (omega arith) more in omega arith
 
-  pub only_index : ((a : A) → w a ≡ 0 → f a ≡ 0) → (l : List A) (i : ℕ) (d : A) → i < length l → total w l ≤ 1 → 1 ≤ w (get_or l i d) → total f l ≡ f (get_or l i d)
+  pub only_index : ((a : A) → w a ≡ 0 → f a ≡ 0) → (l : List A) (i : ℕ) (d : A) → i < length l → total w l ≤ 1 → 1 ≤ w (get_or l i d)
+      → total f l ≡ f (get_or l i d)
   only_index still [] i d l most more = absurd (omega arith)
   only_index still (x ∷ xs) zero d l most more = let rest = zero_total still xs (omega arith) in omega arith
   only_index still (x ∷ xs) (suc i) d l most more =
@@ -99,7 +102,8 @@ module _ {A : Type 0} (f w : A → ℕ) where
   at_most [] le = omega arith
   at_most (x ∷ xs) le = let a = le 0 x refl in let b = at_most xs (λ i v e. le (suc i) v e) in omega arith
 
-  pub at_most_index : (l : List A) → ((i : ℕ) (d : A) → i < length l → f (get_or l i d) ≤ 65536 * w (get_or l i d)) → total f l ≤ 65536 * total w l
+  pub at_most_index : (l : List A) → ((i : ℕ) (d : A) → i < length l → f (get_or l i d) ≤ 65536 * w (get_or l i d))
+      → total f l ≤ 65536 * total w l
   at_most_index [] le = omega arith
   at_most_index (x ∷ xs) le = let a = le 0 x (omega arith) in let b = at_most_index xs (λ i d l. le (suc i) d (omega arith)) in omega arith
 
@@ -117,7 +121,8 @@ module _ (f w : Hold → ℕ) (still : (h : Hold) → w h ≡ 0 → f h ≡ 0) w
       only_index f w still a.settled b.0 h b.1 most (omega arith) ∙ ap f b.2
 
   -- the one pass that weighs counts for all
-  pub only_behind : (views : List View) (seat : ℕ) (v : View) (h : Hold) → get_elem? views seat ≡ some v → IsBehind v h → total (pass_sum w) views ≤ 1 → 1 ≤ w h → total (pass_sum f) views ≡ f h
+  pub only_behind : (views : List View) (seat : ℕ) (v : View) (h : Hold) → get_elem? views seat ≡ some v → IsBehind v h
+      → total (pass_sum w) views ≤ 1 → 1 ≤ w h → total (pass_sum f) views ≡ f h
   only_behind views seat v h at behind most more =
       let l = at-le (pass_sum w) views seat v at in
       let m = behind-le w v h behind in
@@ -198,9 +203,11 @@ unfolding sum_below
 sum_below-zero f zero h = refl
 sum_below-zero f (suc n) h = let a = h n (omega arith) in let b = sum_below-zero f n (λ k l. h k (omega arith)) in omega arith
 
-sum_below-total : {A : Type 0} (f : ℕ → A → ℕ) (g : A → ℕ) (n : ℕ) → ((a : A) → sum_below (λ k. f k a) n ≤ g a) → (xs : List A) → sum_below (λ k. total (f k) xs) n ≤ total g xs
+sum_below-total : {A : Type 0} (f : ℕ → A → ℕ) (g : A → ℕ) (n : ℕ) → ((a : A) → sum_below (λ k. f k a) n ≤ g a) → (xs : List A)
+    → sum_below (λ k. total (f k) xs) n ≤ total g xs
 sum_below-total f g n h [] = let z = sum_below-zero (λ k. total (f k) []) n (λ k l. refl) in omega arith
-sum_below-total f g n h (x ∷ xs) = let a = sum_below-add (λ k. f k x) (λ k. total (f k) xs) n in let b = h x in let c = sum_below-total f g n h xs in omega arith
+sum_below-total f g n h (x ∷ xs) = let a = sum_below-add (λ k. f k x) (λ k. total (f k) xs) n in let b = h x in
+    let c = sum_below-total f g n h xs in omega arith
 
 one-slot : (slot n : ℕ) → sum_below (λ k. bit (slot == k)) n ≤ bit (ltb slot n)
 unfolding sum_below
@@ -232,7 +239,8 @@ holding-sum_below n vs = sum_below-total (λ k v. pass_sum (grip_of k) v) (pass_
 all-but-none : (f : ℕ → ℕ) (s n : ℕ) → n ≤ s → ((k : ℕ) → k < n → k ≢ s → f k ≡ 1) → sum_below f n ≡ n
 unfolding sum_below
 all-but-none f s zero l h = refl
-all-but-none f s (suc n) l h = let a = h n (omega arith) (λ e. omega arith) in let b = all-but-none f s n (omega arith) (λ k m ne. h k (omega arith) ne) in omega arith
+all-but-none f s (suc n) l h = let a = h n (omega arith) (λ e. omega arith) in
+    let b = all-but-none f s n (omega arith) (λ k m ne. h k (omega arith) ne) in omega arith
 
 -- where all but one of n count 1, they count n - 1 at least
 pub all-but-one : (f : ℕ → ℕ) (s n : ℕ) → ((k : ℕ) → k < n → k ≢ s → f k ≡ 1) → n ≤ sum_below f n + 1
@@ -249,7 +257,8 @@ further x y n h = let a : suc x * n ≤ y * n = mul-le-mul_right n h in omega (a
 
 -- the pins of a reader lie before those of the next
 pub pin_inside : (r readers c n : ℕ) → r < readers → c < n → r * n + c < readers * n
-pin_inside r readers c n h l = let f = further r readers n h in let x : ℕ = r * n in let y : ℕ = readers * n in let f' : x + n ≤ y = f in omega arith
+pin_inside r readers c n h l = let f = further r readers n h in let x : ℕ = r * n in let y : ℕ = readers * n in let f' : x + n ≤ y = f in
+    omega arith
 
 row-apart : (r s c d n : ℕ) → c < n → r < s → r * n + c ≡ s * n + d → ⊥
 row-apart r s c d n l h e =
@@ -259,7 +268,11 @@ row-apart r s c d n l h e =
 -- a pin word has one reader and one channel
 pub same_pin : (r s c d n : ℕ) → c < n → d < n → r * n + c ≡ s * n + d → (r ≡ s) × (c ≡ d)
 same_pin r s c d n lc ld e = dite (ℕ_discrete r s)
-    (λ (h : r ≡ s). (h, (let m : r * n ≡ s * n = ap (λ (k : ℕ). k * n) h in let x : ℕ = r * n in let y : ℕ = s * n in let m' : x ≡ y = m in let e' : x + c ≡ y + d = e in omega arith)))
+    (λ (h : r ≡ s). (
+      h,
+      (let m : r * n ≡ s * n = ap (λ (k : ℕ). k * n) h in let x : ℕ = r * n in let y : ℕ = s * n in
+          let m' : x ≡ y = m in let e' : x + c ≡ y + d = e in omega arith),
+    ))
     (λ (ne : r ≢ s). dite (dec_le r s)
     (λ (le : r ≤ s). absurd (row-apart r s c d n lc (omega arith) e))
     (λ (gt : r ≤ s → ⊥). absurd (row-apart s r d c n ld (lt_of_not-le gt) (sym e))))

@@ -57,7 +57,8 @@ opening_account sizes version root pool = record {
 -- the same before any pass was made
 abbrev pub first_account : Opening → Account
 first_account key =
-    record (opening_account key.sizes key.version key.root (drop (pool_at key.sizes) key.words.value.items)) { given = 0 }
+    record (opening_account key.sizes key.version key.root
+    (drop (pool_at key.sizes) key.words.value.items)) { given = 0 }
 
 -- a reader's notes before its first call
 abbrev pub new_notes : Sizes → ℕ → Notes
@@ -111,7 +112,8 @@ after_begin account = record account {
 abbrev pub next_slot : Account → ℕ
 next_slot account = length account.scan
 
--- a slot is free where it is not current and all that had taken its version have left, by these leavers
+-- a slot is free where it is not current and all that had taken its version have left, by these
+-- leavers
 abbrev pub is_free : Account → ℕ → ℕ → Bool
 is_free account slot gone =
     if slot == account.slot then false else (slot_at account slot).start == gone
@@ -127,7 +129,9 @@ after_scan account gone = record account {
   gone = gone;
   scan = account.scan ++ answer_of account (next_slot account) gone ∷ [];
   slots = slice_set account.slots (next_slot account)
-      (record (slot_at account (next_slot account)) { free = is_free account (next_slot account) gone });
+      (record (slot_at account (next_slot account)) {
+        free = is_free account (next_slot account) gone;
+      });
   steps = account.steps ++ Load (leavers_at (next_slot account)) ∷ [];
 }
 
@@ -214,7 +218,8 @@ after_publish account slot root count = record account {
   slot = slot;
   root = root;
   slots = slice_set
-      (slice_set account.slots account.slot (record (slot_at account account.slot) { start = count }))
+      (slice_set account.slots account.slot
+      (record (slot_at account account.slot) { start = count }))
       slot (new_slot (account.version + 1));
   begun = false;
   scan = [];

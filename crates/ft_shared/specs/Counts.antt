@@ -1,4 +1,5 @@
--- Counts over the passes: those of readers that have a seat, and those that the writer's seat took in.
+-- Counts over the passes: those of readers that have a seat, and those that the writer's seat took
+-- in.
 use Rattle.std.specs.Prelude.{◌≡◌, Contains, ℕ, zero, suc, ◌+◌, ◌==◌, Bool, if◌then◌else◌, List, [], ◌∷◌, Option, Some, None, slice_index_or}
 use Rattle.ft_shared.specs.declared.law.TakenVersion.{TakenVersion}
 use Rattle.ft_shared.specs.declared.law.Pin.{Pin}

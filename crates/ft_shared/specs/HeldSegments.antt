@@ -27,7 +27,8 @@ IsHeldBy history notes segment =
     ⊎ ((channel : ℕ) × (pin : Pin) × (pin_of notes channel ≡ Some pin)
     × IsOfPin history pin segment)
 
--- The segment is held: it is one of the current version, or a pass holds it, settled passes included
+-- The segment is held: it is one of the current version, or a pass holds it, settled passes
+-- included
 abbrev pub IsHeld : Account → List View → ℕ → Type 0
 IsHeld account views segment =
     IsOfVersion account.history account.version segment

@@ -34,7 +34,8 @@ abbrev pub IsOfVersion : List PlacedVersion → ℕ → ℕ → Type 0
 IsOfVersion history version segment =
     IsSomeAnd (placed_at history version) (λ placed. IsOf (place_of placed) segment)
 
--- What may be read of a version: without a pin its segments, and by a pin those that the pin holds of it
+-- What may be read of a version: without a pin its segments, and by a pin those that the pin holds
+-- of it
 abbrev pub IsReadable : PlacedVersion → Option ℕ → ℕ → Type 0
 IsReadable placed None segment = IsOf (place_of placed) segment
 IsReadable placed (Some root) segment = PinHolds (place_of placed) root segment

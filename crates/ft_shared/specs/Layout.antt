@@ -29,7 +29,8 @@ segment_at sizes segment at = pool_at sizes + (segment * 256 + at)
 abbrev pub word_count : Sizes → ℕ
 word_count sizes = pool_at sizes + 256 * sizes.segments
 
--- CURRENT: the version in bits 32 to 63, the slot in 24 to 31, the root segment in 8 to 23, the count in 0 to 7
+-- CURRENT: the version in bits 32 to 63, the slot in 24 to 31, the root segment in 8 to 23, the
+-- count in 0 to 7
 abbrev pub current_word : ℕ → ℕ → ℕ → ℕ → ℕ
 current_word version slot root count = version * 4294967296 + slot * 16777216 + root * 256 + count
 

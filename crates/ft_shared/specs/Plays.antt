@@ -1,4 +1,5 @@
--- What each kind of step tells the seat that makes it: of the step, the seat before, the number found and the seat after.
+-- What each kind of step tells the seat that makes it: of the step, the seat before, the number
+-- found and the seat after.
 use Rattle.std.specs.Prelude.{◌≡◌, ◌≢◌, ℕ, ◌+◌, ◌<◌, ◌≤◌, true, IsNone}
 use Rattle.atomic_table.specs.Table.{Step, Allows}
 use Rattle.atomic_table.specs.Seated.{TableId}
@@ -18,8 +19,10 @@ use Rattle.ft_shared.specs.Pass.{note_look, note_take, note_leave, note_word, pi
 abbrev pub StepKind : Type 1
 StepKind = Step (Unit {0}) → SeatView → ℕ → SeatView → Type 0
 
--- A seat of the table may step on a word, which becomes `change` of what it was: the rule stays kept, and the seat can be told this
-abbrev pub MayStep : Opening → TableId → TableId → ℕ → SeatView → ℕ → (ℕ → ℕ) → (ℕ → SeatView → Type 0) → Type 0
+-- A seat of the table may step on a word, which becomes `change` of what it was: the rule stays
+-- kept, and the seat can be told this
+abbrev pub MayStep : Opening → TableId → TableId → ℕ → SeatView → ℕ → (ℕ → ℕ)
+    → (ℕ → SeatView → Type 0) → Type 0
 MayStep key table home seat view word change told =
     (home ≡ table) × (word < table.words)
     × Allows (RegisterRule key) table.slots seat view word change told
@@ -105,16 +108,19 @@ IsScanBegin step before found after =
     (after ≡ (Writer (after_begin (account_of before.0)), before.1))
     × (step.word ≡ current_at)
 
--- the slot's version is in the history, a slot that was found free before is found free again, and a whole scan finds at most as many slots held as there are readers
+-- the slot's version is in the history, a slot that was found free before is found free again, and
+-- a whole scan finds at most as many slots held as there are readers
 abbrev pub IsSlotScan : StepKind
 IsSlotScan step before found after =
     (after ≡ (Writer (after_scan (account_of before.0) found), before.1))
     × ((slot_at (account_of before.0) (next_slot (account_of before.0))).free ≡ true
     → is_free (account_of before.0) (next_slot (account_of before.0)) found ≡ true)
     × (next_slot (account_of before.0) + 1 ≡ (account_of before.0).sizes.readers + 2
-    → sum_below (marks (after_scan (account_of before.0) found)) ((account_of before.0).sizes.readers + 2)
+    → sum_below (marks (after_scan (account_of before.0) found))
+    ((account_of before.0).sizes.readers + 2)
     ≤ (account_of before.0).sizes.readers)
-    × HasVersion (account_of before.0).history (slot_at (account_of before.0) (next_slot (account_of before.0))).version
+    × HasVersion (account_of before.0).history
+    (slot_at (account_of before.0) (next_slot (account_of before.0))).version
     × (step.word ≡ leavers_at (next_slot (account_of before.0)))
 
 -- the slot is not the current one
@@ -123,10 +129,15 @@ IsClear step before found after = (slot : ℕ) → step.word ≡ leavers_at slot
     → (after ≡ (Writer (after_clear (account_of before.0) slot), before.1))
     × (slot ≢ (account_of before.0).slot)
 
--- the count that was found is at most the readers, and no version of the history had the next number
+-- the count that was found is at most the readers, and no version of the history had the next
+-- number
 abbrev pub IsPublish : StepKind
 IsPublish step before found after =
-    (after ≡ (Writer (after_publish (account_of before.0) (slot_in step.first) (root_in step.first) (count_in found)), before.1))
+    (after ≡ (
+      Writer (after_publish (account_of before.0) (slot_in step.first)
+          (root_in step.first) (count_in found)),
+      before.1,
+    ))
     × (count_in found ≤ (account_of before.0).sizes.readers)
     × IsNone (placed_at (account_of before.0).history ((account_of before.0).version + 1))
     × (step.word ≡ current_at)
@@ -159,5 +170,6 @@ after_give (Writer account) = Writer (record account { given = account.given + 1
 after_give view = view
 
 abbrev pub given_pass : View → View
-given_pass (Writer account) = Reader (record { notes = new_notes account.sizes account.given; slot = 0 })
+given_pass (Writer account) =
+    Reader (record { notes = new_notes account.sizes account.given; slot = 0 })
 given_pass view = Spent

@@ -15,7 +15,8 @@ use Rattle.ft_shared.specs.Counts.{IsBehind, pin_of}
 use Rattle.ft_shared.specs.History.{placed_at, place_of, HasVersion}
 use Rattle.ft_shared.specs.Account.{slot_at, IsAnswered, IsPinAnswer, IsPinMet}
 
--- A segment of a version is as it was: its words are the version's, and it was last filled for that version or an earlier one
+-- A segment of a version is as it was: its words are the version's, and it was last filled for that
+-- version or an earlier one
 abbrev pub IsAsPlaced : Account → PlacedVersion → ℕ → Type 0
 IsAsPlaced account placed segment =
     SameWords placed.pool account.pool segment
@@ -46,7 +47,8 @@ pub record IsKept (account : Account) (hold : Hold) : Type 0 where
   pub pins : (channel : ℕ) (pin : Pin) → pin_of hold.notes channel ≡ Some pin
       → IsStanding account pin
 
--- A pin that the scan looked at is the one that it found there, or was set from a version that it answered
+-- A pin that the scan looked at is the one that it found there, or was set from a version that it
+-- answered
 abbrev pub ArePinsScanned : Account → Hold → Type 0
 ArePinsScanned account hold = (channel : ℕ) (pin : Pin) → pin_of hold.notes channel ≡ Some pin
     → IsPinMet account hold.notes.number channel

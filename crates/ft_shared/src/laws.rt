@@ -9,7 +9,7 @@ ghost use Rattle.ft_shared.specs.declared.law.TakenVersion.{TakenVersion};
 ghost use Rattle.ft_shared.specs.declared.law.Notes.{Notes};
 ghost use Rattle.ft_shared.specs.declared.law.Account.{Account};
 ghost use Rattle.ft_shared.specs.History.{Agrees};
-ghost use Rattle.ft_shared.specs.Account.{IsWhole, IsAnswered, Found};
+ghost use Rattle.ft_shared.specs.Account.{IsWhole, IsAnswered, Found, MayFill};
 ghost use Rattle.ft_shared.specs.HeldSegments.{IsHeldBy, IsHeld};
 ghost use Rattle.ft_shared.specs.Pass.{note_take, note_pin};
 ghost use Rattle.ft_shared.specs.Register.{TableState, RegisterRule};
@@ -19,10 +19,13 @@ use ft_segments::held_by_a_pin_is_named;
 /// A whole scan has found each segment that is held. So a segment that may be filled is not
 /// held.
 pub fn a_whole_scan_finds_each_held_segment()
-    ensures { (key : Opening) (state : TableState) (rule : RegisterRule key state)
+    ensures found { (key : Opening) (state : TableState) (rule : RegisterRule key state)
         → IsWhole key.sizes rule.account
         → (segment : ℕ) → IsHeld rule.account state.views segment
         → Found rule.account segment }
+    ensures unheld { (key : Opening) (state : TableState) (rule : RegisterRule key state)
+        (segment : ℕ) → MayFill key.sizes rule.account segment
+        → IsHeld rule.account state.views segment → ⊥ }
 {
     held_by_a_pin_is_named();
 }

@@ -1,6 +1,6 @@
 //! A reader pins a sample of the version that it holds, and goes on reading it when it has left
 //! that version; the writer looks at the pins.
-ghost use Rattle.std.specs.Prelude.{◌≡◌, ◌+◌, ◌<◌, ◌≤◌, IsSome};
+ghost use Rattle.std.specs.Prelude.{◌≡◌, ◌+◌, ◌<◌, ◌≤◌, IsSome, IsNone};
 ghost use Rattle.ft_shared.specs.Counts.{pin_of};
 ghost use Rattle.ft_shared.specs.Account.{SlotsAreMet, pinned_root, after_pin_scan};
 ghost use Rattle.ft_shared.specs.Pass.{pin_from, note_pin, note_unpin, note_pinned_word};
@@ -43,6 +43,7 @@ impl Shared {
         requires channel { channel < self.now.sizes.channels }
         ensures noted { pass.new
             ≡ record pass.old { notes = note_unpin pass.old.notes channel } }
+        ensures gone { IsNone (pin_of pass.new.notes channel) }
         ensures steps { steps.new ≡ steps.old + 1 }
     {
         let word = self.pin_word_of(pass.number, channel);

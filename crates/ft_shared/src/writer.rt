@@ -79,7 +79,8 @@ impl Shared {
         requires slot { slot < self.now.sizes.readers + 2 }
         ensures none { IsNone result ↔ ((slot ≢ pass.old.account.slot)
             × ((slot_at pass.old.account slot).start ≡ pass.new.account.gone)) }
-        ensures some { IfSome result (λ version. version ≡ (slot_at pass.old.account slot).version) }
+        ensures some { IfSome result (λ version.
+            version ≡ (slot_at pass.old.account slot).version) }
         ensures known { HasVersion pass.new.account.history
             (slot_at pass.old.account slot).version }
         ensures free { (slot_at pass.old.account slot).free ≡ true → IsNone result }

@@ -15,13 +15,15 @@ is-named : (root s : ℕ) (b : Bool) → (root == s) ≡ b → 1 ≤ (if b then 
 is-named root s true e l = true-eqb root s (sym e)
 is-named root s false e l = absurd (omega arith)
 
-pub unfound : (sizes : Sizes) (a : Account) (roots pins : List ℕ) (answers : List (Option ℕ)) (s : ℕ) → IsWhole sizes a → AreRoots a.history roots
+pub unfound : (sizes : Sizes) (a : Account) (roots pins : List ℕ) (answers : List (Option ℕ)) (s : ℕ) → IsWhole sizes a
+    → AreRoots a.history roots
     → (slice_get roots a.version ≡ Some s → ⊥) → a.scan ≡ answers → All (λ o. IfSome o (λ v. slice_get roots v ≢ Some s)) answers
     → ((r c root : ℕ) → IsPinAnswer a r c (Some root) → Contains pins root) → All (λ root. root ≢ s) pins → IsUnfound sizes a s
 unfound sizes a roots pins answers s whole known apart scan held had unpinned = record {
   whole = whole;
   current = λ of. apart (known a.version s of);
-  answered = λ v has of. All-contains (λ (o : Option ℕ). IfSome o (λ v. slice_get roots v ≢ Some s)) answers (Some v) held (subst (λ (l : List (Option ℕ)). Contains l (Some v)) scan has) (known v s of);
+  answered = λ v has of. All-contains (λ (o : Option ℕ). IfSome o (λ v. slice_get roots v ≢ Some s)) answers (Some v) held
+      (subst (λ (l : List (Option ℕ)). Contains l (Some v)) scan has) (known v s of);
   pins = λ r c root has. All-contains (λ root. root ≢ s) pins root unpinned (had r c root has);
 }
 
@@ -44,7 +46,8 @@ bare_filled pool s at w more few bare k = (
   get_or-set_other pool (s * 256 + at) (k * 256 + 1) w 0 (λ e. omega arith) ∙ (bare k).1,
 )
 
-placed_split : (h : List PlacedVersion) (p : PlacedVersion) (v : ℕ) → (placed_at (h ++ p ∷ []) v ≡ placed_at h v) ⊎ ((p.version ≡ v) × (placed_at (h ++ p ∷ []) v ≡ Some p))
+placed_split : (h : List PlacedVersion) (p : PlacedVersion) (v : ℕ)
+    → (placed_at (h ++ p ∷ []) v ≡ placed_at h v) ⊎ ((p.version ≡ v) × (placed_at (h ++ p ∷ []) v ≡ Some p))
 placed_split [] p v = pick (p.version == v) refl
   where
     pick : (b : Bool) → (p.version == v) ≡ b → (cond b (Some p) None ≡ None) ⊎ ((p.version ≡ v) × (cond b (Some p) None ≡ Some p))
@@ -53,7 +56,8 @@ placed_split [] p v = pick (p.version == v) refl
 placed_split (x ∷ xs) p v = pick (x.version == v) (placed_split xs p v)
   where
     pick : (b : Bool) → (placed_at (xs ++ p ∷ []) v ≡ placed_at xs v) ⊎ ((p.version ≡ v) × (placed_at (xs ++ p ∷ []) v ≡ Some p))
-        → (cond b (Some x) (placed_at (xs ++ p ∷ []) v) ≡ cond b (Some x) (placed_at xs v)) ⊎ ((p.version ≡ v) × (cond b (Some x) (placed_at (xs ++ p ∷ []) v) ≡ Some p))
+        → (cond b (Some x) (placed_at (xs ++ p ∷ []) v) ≡ cond b (Some x) (placed_at xs v)) ⊎
+        ((p.version ≡ v) × (cond b (Some x) (placed_at (xs ++ p ∷ []) v) ≡ Some p))
     pick true r = inl refl
     pick false r = r
 
@@ -75,9 +79,11 @@ abbrev pub SongBare : Type 0
 SongBare = (pool : List ℕ) (root segment : ℕ) → word_at pool root 1 ≡ 0 → uses segment (walk pool root) ≡ is_it segment root
 
 -- a bare version adds its root
-pub roots_grow : SongBare → (h new : List PlacedVersion) (p : PlacedVersion) (roots : List ℕ) → new ≡ h ++ p ∷ [] → length roots ≡ p.version → word_at p.pool p.root 1 ≡ 0 → AreRoots h roots → AreRoots new (roots ++ p.root ∷ [])
+pub roots_grow : SongBare → (h new : List PlacedVersion) (p : PlacedVersion) (roots : List ℕ) → new ≡ h ++ p ∷ []
+    → length roots ≡ p.version → word_at p.pool p.root 1 ≡ 0 → AreRoots h roots → AreRoots new (roots ++ p.root ∷ [])
 roots_grow bare h new p roots is long word known v s of = ⊎_elim
-    (λ (e : placed_at (h ++ p ∷ []) v ≡ placed_at h v). get_longer roots (p.root ∷ []) v s (known v s (subst (λ (o : Option PlacedVersion). IsSomeAnd o (λ q. IsOf (place_of q) s)) e of')))
+    (λ (e : placed_at (h ++ p ∷ []) v ≡ placed_at h v). get_longer roots (p.root ∷ []) v s
+    (known v s (subst (λ (o : Option PlacedVersion). IsSomeAnd o (λ q. IsOf (place_of q) s)) e of')))
     (λ (e : (p.version ≡ v) × (placed_at (h ++ p ∷ []) v ≡ Some p)).
     let here : IsOf (place_of p) s = subst (λ (o : Option PlacedVersion). IsSomeAnd o (λ q. IsOf (place_of q) s)) e.1 of' in
     let u : uses s (walk p.pool p.root) ≡ is_it s p.root = bare p.pool p.root s word in
@@ -98,12 +104,14 @@ zeros (suc m) n zero = refl
 zeros (suc m) n (suc k) = zeros m n k
 
 pub bare_first : (segments : ℕ) → let z : ℕ = 0 in IsBarePool (pool_of segments (replicate 256 z))
-bare_first segments k = let z : ℕ = 0 in let n : ℕ = 256 * segments - length (replicate 256 z) in (zeros 256 n (k * 256 + 0), zeros 256 n (k * 256 + 1))
+bare_first segments k = let z : ℕ = 0 in let n : ℕ = 256 * segments - length (replicate 256 z) in
+    (zeros 256 n (k * 256 + 0), zeros 256 n (k * 256 + 1))
 
 pub zero_word : let z : ℕ = 0 in word_at (replicate 256 z) 0 1 ≡ 0
 zero_word = refl
 
 pub first_known : SongBare → (segments : ℕ) (words : List ℕ) → let z : ℕ = 0 in words ≡ replicate 256 z
     → AreRoots (record { version = 0; root = 0; pool = pool_of segments words } ∷ []) (0 ∷ [])
-first_known bare segments words is = roots_grow bare [] (record { version = 0; root = 0; pool = pool_of segments words } ∷ []) (record { version = 0; root = 0; pool = pool_of segments words }) [] refl refl
+first_known bare segments words is = roots_grow bare [] (record { version = 0; root = 0; pool = pool_of segments words } ∷ [])
+    (record { version = 0; root = 0; pool = pool_of segments words }) [] refl refl
     (ap (λ (w : List ℕ). word_at (pool_of segments w) 0 1) is ∙ (bare_first segments 0).1) (λ v s of. absurd of)

@@ -1,4 +1,5 @@
-//! Tests of the register: its worked rows, refusals, and eight readers in threads beside the writer.
+//! Tests of the register: its worked rows, refusals, and eight readers in threads beside the
+//! writer.
 #![tactic(auto)]
 
 #[cfg(test)]

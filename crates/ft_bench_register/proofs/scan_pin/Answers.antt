@@ -9,8 +9,11 @@ pub returns-clause-before : goal.returns-clause-before
 returns-clause-before c = λ r met.
     let old = c.args.writer.now.account.pin_scan in
     let x : PinAnswer = pin_answer c.args.reader 0 (pinned_root c.scan_pin.new.pass.account.pinned) in
-    let is = ap (λ b. b.account.pin_scan) c.scan_pin.ensures.noted in
-    (met.0, subst (λ (l : List PinAnswer). Contains l (pin_answer r 0 met.0)) (sym is) (Contains-append_left old (x ∷ []) (pin_answer r 0 met.0) met.1))
+    let is = ap (λ b. b.account.pin_scan) c.scan_pin.ensures.noted in (
+      met.0,
+      subst (λ (l : List PinAnswer). Contains l (pin_answer r 0 met.0)) (sym is)
+          (Contains-append_left old (x ∷ []) (pin_answer r 0 met.0) met.1),
+    )
 
 pub returns-clause-this : goal.returns-clause-this
 returns-clause-this c =

@@ -6,7 +6,8 @@ use Rattle.ft_shared_tests.proofs.Unfound.{may_fill, bare_filled}
 use Rattle.ft_shared_tests.proofs.author.fill_one.Goals as goal
 
 pub fill-requires-clause-free : goal.fill-requires-clause-free
-fill-requires-clause-free c = may_fill c.a_bare_root_names_itself.ensures.sample c.args.shared.now.sizes c.args.writer.now.account c.args.segment c.requires.bare c.requires.unfound
+fill-requires-clause-free c = may_fill c.a_bare_root_names_itself.ensures.sample
+    c.args.shared.now.sizes c.args.writer.now.account c.args.segment c.requires.bare c.requires.unfound
 
 pub returns-clause-bare : goal.returns-clause-bare
 returns-clause-bare c = subst IsBarePool (sym (ap (λ b. b.account.pool) c.fill.ensures))

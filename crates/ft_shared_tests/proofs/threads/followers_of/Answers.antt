@@ -12,7 +12,8 @@ follower_of-requires c =
     let n : ℕ = known.0 in
     let sum = known.1 in
     let more = c.loop-given-test.true in
-    let fresh = (c.in-Some.ensures.fresh c.args.shared.now (n - 1) (one_more c.args.shared.now n c.loop-given.passes (omega arith) known.2)).0 in
+    let fresh = (c.in-Some.ensures.fresh c.args.shared.now (n - 1)
+    (one_more c.args.shared.now n c.loop-given.passes (omega arith) known.2)).0 in
     (ap (λ (p : ReaderState). p.register) fresh, ap (λ (p : ReaderState). p.notes.held) fresh, c.requires.channels)
 
 pub loop-given-preserved : goal.loop-given-preserved
@@ -20,5 +21,9 @@ loop-given-preserved c =
     let known = c.loop-given.invariant in
     let n : ℕ = known.0 in
     let sum = known.1 in
-    let more = c.loop-given-test.true in
-    (n - 1, omega arith, (c.next.ensures.fresh c.args.shared.now (n - 1) (one_more c.args.shared.now n c.loop-given.passes (omega arith) known.2)).1)
+    let more = c.loop-given-test.true in (
+      n - 1,
+      omega arith,
+      (c.next.ensures.fresh c.args.shared.now (n - 1)
+          (one_more c.args.shared.now n c.loop-given.passes (omega arith) known.2)).1,
+    )

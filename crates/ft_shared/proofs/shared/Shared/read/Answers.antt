@@ -22,8 +22,10 @@ scan_load-requires c =
     let word : segment_at a.sizes c.args.seg c.args.at ≡ c.word_of-word.result =
     ap (λ (z : Sizes). segment_at z c.args.seg c.args.at) sizes ∙ sym c.word_of-word.ensures.number in (
       search rules,
-      subst (λ (n : ℕ). c.word_of-word.result < n) (ap word_count (sym (ap (λ o. o.sizes) c.self.view_is)) ∙ sym c.self.invariant.0) c.word_of-word.ensures.inside,
-      subst (λ (n : ℕ). Allows (RegisterRule key) slots w.place.id w.place.me n (λ x. x) (IsPoolRead (step slots n 0 0 none) w.place.me)) word
+      subst (λ (n : ℕ). c.word_of-word.result < n) (ap word_count (sym (ap (λ o. o.sizes) c.self.view_is))
+          ∙ sym c.self.invariant.0) c.word_of-word.ensures.inside,
+      subst (λ (n : ℕ). Allows (RegisterRule key) slots w.place.id w.place.me n (λ x. x)
+          (IsPoolRead (step slots n 0 0 none) w.place.me)) word
           (pool_reads key slots w.place.id c.args.seg c.args.at w.place.me (ap (λ m. m.0) c.pass.invariant.seat) c.ranges.at.fits),
     )
 
@@ -36,4 +38,10 @@ invariant_of-pass c =
     c.word_of-word.ensures.number ∙ ap (λ (z : Sizes). segment_at z c.args.seg c.args.at) (sym sizes) in
     let b : Account = after_read a c.args.seg c.args.at in
     let now = (c.scan_load.ensures.2 c.args.seg c.args.at c.ranges.at.fits word).0 in
-    writer_still w (record { place = c.scan_load.new.place; readers = w.readers; version = w.version; slot = w.slot; slots = w.slots }) b c.pass.invariant (now ∙ ap (λ m. (Writer b, m.1)) c.pass.invariant.seat) refl
+    writer_still w (record {
+      place = c.scan_load.new.place;
+      readers = w.readers;
+      version = w.version;
+      slot = w.slot;
+      slots = w.slots;
+    }) b c.pass.invariant (now ∙ ap (λ m. (Writer b, m.1)) c.pass.invariant.seat) refl

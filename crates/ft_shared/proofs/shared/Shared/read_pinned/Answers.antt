@@ -21,9 +21,12 @@ load-requires g c =
     let word : segment_at h.notes.sizes c.args.seg c.args.at ≡ c.word_of-word.result =
     ap (λ (z : Sizes). segment_at z c.args.seg c.args.at) sizes ∙ sym c.word_of-word.ensures.number in (
       search rules,
-      subst (λ (n : ℕ). c.word_of-word.result < n) (ap word_count (sym (ap (λ o. o.sizes) c.self.view_is)) ∙ sym c.self.invariant.0) c.word_of-word.ensures.inside,
-      subst (λ (n : ℕ). Allows (RegisterRule key) slots p.place.id p.place.me n (λ x. x) (IsPinnedRead g.C.Pinned.channel (step slots n 0 0 none) p.place.me)) word
-          (pin_reads key slots p.place.id g.C.Pinned.channel c.args.seg c.args.at p.place.me (ap (λ m. m.0) c.pass.invariant.seat) c.ranges.at.fits),
+      subst (λ (n : ℕ). c.word_of-word.result < n) (ap word_count (sym (ap (λ o. o.sizes) c.self.view_is))
+          ∙ sym c.self.invariant.0) c.word_of-word.ensures.inside,
+      subst (λ (n : ℕ). Allows (RegisterRule key) slots p.place.id p.place.me n (λ x. x)
+          (IsPinnedRead g.C.Pinned.channel (step slots n 0 0 none) p.place.me)) word
+          (pin_reads key slots p.place.id g.C.Pinned.channel c.args.seg c.args.at p.place.me
+          (ap (λ m. m.0) c.pass.invariant.seat) c.ranges.at.fits),
     )
 
 pub invariant_of-pass : goal.invariant_of-pass
@@ -35,4 +38,5 @@ invariant_of-pass g c =
     ap (λ (z : Sizes). segment_at z c.args.seg c.args.at) sizes ∙ sym c.word_of-word.ensures.number in
     let b = after_pinned_word h g.C.Pinned.channel c.args.seg c.args.at c.load.result in
     let now = c.load.ensures.seat.2 c.args.seg c.args.at c.ranges.at.fits (sym word) in
-    reader_still p (record { place = c.load.new.place; slot = p.slot; number = p.number }) b c.pass.invariant (now ∙ ap (λ m. (Reader b, m.1)) c.pass.invariant.seat) refl refl refl
+    reader_still p (record { place = c.load.new.place; slot = p.slot; number = p.number }) b c.pass.invariant
+    (now ∙ ap (λ m. (Reader b, m.1)) c.pass.invariant.seat) refl refl refl

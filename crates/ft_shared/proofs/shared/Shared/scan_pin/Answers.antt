@@ -19,14 +19,18 @@ scan_load-pinned-requires c =
     let key = c.self.inside.words.table.shared.key in
     let slots = c.self.inside.words.table.shared.table_id.slots in
     let sizes : a.sizes ≡ c.args.self.now.sizes = ap (λ b. b.register.sizes) c.pass.view_is ∙ ap (λ o. o.sizes) c.requires.same in
-    let met : SlotsAreMet a.sizes a = subst (λ (z : Sizes × Account). SlotsAreMet z.0 z.1) (λ i. (sym sizes i, sym (ap (λ b. b.account) c.pass.view_is) i)) c.requires.slots in
+    let met : SlotsAreMet a.sizes a = subst (λ (z : Sizes × Account). SlotsAreMet z.0 z.1)
+    (λ i. (sym sizes i, sym (ap (λ b. b.account) c.pass.view_is) i)) c.requires.slots in
     let word : pin_at a.sizes c.args.reader c.args.channel ≡ c.pin_word_of-word.result =
     ap (λ (z : Sizes). pin_at z c.args.reader c.args.channel) sizes ∙ sym c.pin_word_of-word.ensures.number in (
       search rules,
-      subst (λ (n : ℕ). c.pin_word_of-word.result < n) (ap word_count (sym (ap (λ o. o.sizes) c.self.view_is)) ∙ sym c.self.invariant.0) c.pin_word_of-word.ensures.inside,
-      subst (λ (n : ℕ). Allows (RegisterRule key) slots w.place.id w.place.me n (λ x. x) (IsPinScan (step slots n 0 0 none) w.place.me)) word
+      subst (λ (n : ℕ). c.pin_word_of-word.result < n) (ap word_count (sym (ap (λ o. o.sizes) c.self.view_is))
+          ∙ sym c.self.invariant.0) c.pin_word_of-word.ensures.inside,
+      subst (λ (n : ℕ). Allows (RegisterRule key) slots w.place.id w.place.me n (λ x. x)
+          (IsPinScan (step slots n 0 0 none) w.place.me)) word
           (pin_scans key slots w.place.id c.args.reader c.args.channel w.place.me (ap (λ m. m.0) c.pass.invariant.seat) met
-          (subst (λ (z : Sizes). c.args.reader < z.readers) (sym sizes) c.requires.reader) (subst (λ (z : Sizes). c.args.channel < z.channels) (sym sizes) c.requires.channel)),
+          (subst (λ (z : Sizes). c.args.reader < z.readers) (sym sizes) c.requires.reader)
+          (subst (λ (z : Sizes). c.args.channel < z.channels) (sym sizes) c.requires.channel)),
     )
 
 pub root_in-requires : goal.root_in-requires
@@ -36,7 +40,8 @@ root_in-requires c =
     let sizes : a.sizes ≡ c.args.self.now.sizes = ap (λ b. b.register.sizes) c.pass.view_is ∙ ap (λ o. o.sizes) c.requires.same in
     let word : c.pin_word_of-word.result ≡ pin_at a.sizes c.args.reader c.args.channel =
     c.pin_word_of-word.ensures.number ∙ ap (λ (z : Sizes). pin_at z c.args.reader c.args.channel) (sym sizes) in
-    (c.scan_load-pinned.ensures.2 c.args.reader c.args.channel (subst (λ (z : Sizes). c.args.channel < z.channels) (sym sizes) c.requires.channel) word).1
+    (c.scan_load-pinned.ensures.2 c.args.reader c.args.channel
+    (subst (λ (z : Sizes). c.args.channel < z.channels) (sym sizes) c.requires.channel) word).1
 
 pub returns-clause-answer : goal.returns-clause-answer
 returns-clause-answer c =
@@ -45,7 +50,8 @@ returns-clause-answer c =
     let sizes : a.sizes ≡ c.args.self.now.sizes = ap (λ b. b.register.sizes) c.pass.view_is ∙ ap (λ o. o.sizes) c.requires.same in
     let word : c.pin_word_of-word.result ≡ pin_at a.sizes c.args.reader c.args.channel =
     c.pin_word_of-word.ensures.number ∙ ap (λ (z : Sizes). pin_at z c.args.reader c.args.channel) (sym sizes) in
-    let now = (c.scan_load-pinned.ensures.2 c.args.reader c.args.channel (subst (λ (z : Sizes). c.args.channel < z.channels) (sym sizes) c.requires.channel) word).0 in
+    let now = (c.scan_load-pinned.ensures.2 c.args.reader c.args.channel
+    (subst (λ (z : Sizes). c.args.channel < z.channels) (sym sizes) c.requires.channel) word).0 in
     c.root_in.ensures ∙ sym (ap (λ m. pinned_root (account_of m.0).pinned) now)
 
 pub invariant_of-pass : goal.invariant_of-pass
@@ -56,5 +62,12 @@ invariant_of-pass c =
     let word : c.pin_word_of-word.result ≡ pin_at a.sizes c.args.reader c.args.channel =
     c.pin_word_of-word.ensures.number ∙ ap (λ (z : Sizes). pin_at z c.args.reader c.args.channel) (sym sizes) in
     let b : Account = after_pin_scan a c.args.reader c.args.channel c.scan_load-pinned.result in
-    let now = (c.scan_load-pinned.ensures.2 c.args.reader c.args.channel (subst (λ (z : Sizes). c.args.channel < z.channels) (sym sizes) c.requires.channel) word).0 in
-    writer_still w (record { place = c.scan_load-pinned.new.place; readers = w.readers; version = w.version; slot = w.slot; slots = w.slots }) b c.pass.invariant (now ∙ ap (λ m. (Writer b, m.1)) c.pass.invariant.seat) refl
+    let now = (c.scan_load-pinned.ensures.2 c.args.reader c.args.channel
+    (subst (λ (z : Sizes). c.args.channel < z.channels) (sym sizes) c.requires.channel) word).0 in
+    writer_still w (record {
+      place = c.scan_load-pinned.new.place;
+      readers = w.readers;
+      version = w.version;
+      slot = w.slot;
+      slots = w.slots;
+    }) b c.pass.invariant (now ∙ ap (λ m. (Writer b, m.1)) c.pass.invariant.seat) refl

@@ -16,12 +16,15 @@ load-requires g c =
     let p = c.pass.inside in
     let key = c.self.inside.words.table.shared.key in
     let slots = c.self.inside.words.table.shared.table_id.slots in
-    let sizes : (hold_of p.place.me.0).notes.sizes ≡ c.args.self.now.sizes = ap (λ b. b.register.sizes) c.pass.view_is ∙ ap (λ o. o.sizes) c.requires.same in
+    let sizes : (hold_of p.place.me.0).notes.sizes ≡ c.args.self.now.sizes = ap (λ b. b.register.sizes) c.pass.view_is
+    ∙ ap (λ o. o.sizes) c.requires.same in
     let word : segment_at (hold_of p.place.me.0).notes.sizes c.args.seg c.args.at ≡ c.word_of-word.result =
     ap (λ (z : Sizes). segment_at z c.args.seg c.args.at) sizes ∙ sym c.word_of-word.ensures.number in (
       search rules,
-      subst (λ (n : ℕ). c.word_of-word.result < n) (ap word_count (sym (ap (λ o. o.sizes) c.self.view_is)) ∙ sym c.self.invariant.0) c.word_of-word.ensures.inside,
-      subst (λ (n : ℕ). Allows (RegisterRule key) slots p.place.id p.place.me n (λ x. x) (IsWordRead (step slots n 0 0 none) p.place.me)) word
+      subst (λ (n : ℕ). c.word_of-word.result < n) (ap word_count (sym (ap (λ o. o.sizes) c.self.view_is))
+          ∙ sym c.self.invariant.0) c.word_of-word.ensures.inside,
+      subst (λ (n : ℕ). Allows (RegisterRule key) slots p.place.id p.place.me n (λ x. x)
+          (IsWordRead (step slots n 0 0 none) p.place.me)) word
           (reads key slots p.place.id c.args.seg c.args.at p.place.me (ap (λ m. m.0) c.pass.invariant.seat) c.ranges.at.fits),
     )
 
@@ -34,4 +37,5 @@ invariant_of-pass g c =
     c.word_of-word.ensures.number ∙ ap (λ (z : Sizes). segment_at z c.args.seg c.args.at) (sym sizes) in
     let b = after_word h c.args.seg c.args.at c.load.result in
     let now = c.load.ensures.seat.2 c.args.seg c.args.at c.ranges.at.fits word in
-    reader_still p (record { place = c.load.new.place; slot = p.slot; number = p.number }) b c.pass.invariant (now ∙ ap (λ m. (Reader b, m.1)) c.pass.invariant.seat) refl refl refl
+    reader_still p (record { place = c.load.new.place; slot = p.slot; number = p.number }) b c.pass.invariant
+    (now ∙ ap (λ m. (Reader b, m.1)) c.pass.invariant.seat) refl refl refl
