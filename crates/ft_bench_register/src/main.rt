@@ -4,12 +4,14 @@
 //! open the default pool N times, or copy as many bytes. With no words each is done once.
 #![tactic(auto)]
 
-ghost use Rattle.std.specs.Prelude.{◌≡◌, ℕ, ◌+◌, ◌<◌, ◌≤◌, None, IsTrue, length};
-ghost use Rattle.ft_shared.specs.Account.{opening_account};
-ghost use Rattle.ft_shared.specs.Pass.{fresh_passes};
+ghost use Rattle.std.specs.Prelude.{◌≡◌, ℕ, ◌+◌, ◌*◌, ◌%◌, ◌<◌, ◌≤◌, None, IfOk, IsTrue, length};
+ghost use Rattle.ft_segments.specs.Packing.{word_at};
+ghost use Rattle.ft_shared.specs.Account.{pool_of, SlotsAreMet, IsWhole, IsPinMet};
+ghost use Rattle.ft_shared.specs.Pass.{opening_writer, fresh_passes};
 
 use anyhow::{Result, anyhow};
-use ft_shared::{ReaderPass, Shared, WriterPass};
+use ft_segments::a_bare_root_names_itself;
+use ft_shared::{ReaderPass, ReaderPasses, Shared, WriterPass};
 use ft_types::Steps;
 use std::alloc::Global;
 use std::env;
@@ -26,33 +28,83 @@ fn look_often<L: Ledger>(
     rounds: u32,
     steps: &mut Steps<L>,
 )
-    requires { reader.old.origin ≡ shared.now }
+    requires { reader.old.register ≡ shared.now }
 {
     for _ in 0..rounds {
         shared.look(reader, steps);
     }
 }
 
-/// A whole scan at 8 readers, and the publish after it.
-fn publish_next(shared: &Shared, writer: &mut WriterPass) -> u32
-    requires same { writer.old.origin ≡ shared.now }
+/// Looks at each slot.
+fn scan_slots(shared: &Shared, writer: &mut WriterPass)
+    requires same { writer.old.register ≡ shared.now }
     requires readers { shared.now.sizes.readers ≡ 8 }
-    requires room { writer.old.account.version < 4294967295 }
-    ensures same { writer.new.origin ≡ writer.old.origin }
-    ensures version { (result ≡ writer.old.account.version + 1)
-        × (writer.new.account.version ≡ result) }
+    ensures same { writer.new.register ≡ writer.old.register }
+    ensures met { SlotsAreMet shared.now.sizes writer.new.account }
+    ensures left { (writer.new.account.version ≡ writer.old.account.version)
+        × (writer.new.account.pool ≡ writer.old.account.pool) }
 {
     shared.begin_scan(writer);
     for k in 0..10 {
         shared.scan_slot(writer, k);
     }
+}
+
+/// Looks at the pin of a reader.
+fn scan_pin(shared: &Shared, writer: &mut WriterPass, reader: u8)
+    requires same { writer.old.register ≡ shared.now }
+    requires sizes { (reader < shared.now.sizes.readers) × (shared.now.sizes.channels ≡ 1) }
+    requires met { SlotsAreMet shared.now.sizes writer.old.account }
+    ensures same { writer.new.register ≡ writer.old.register }
+    ensures met { SlotsAreMet shared.now.sizes writer.new.account }
+    ensures left { (writer.new.account.version ≡ writer.old.account.version)
+        × (writer.new.account.pool ≡ writer.old.account.pool) }
+    ensures before { (r : ℕ) → IsPinMet writer.old.account r 0
+        → IsPinMet writer.new.account r 0 }
+    ensures this { IsPinMet writer.new.account reader 0 }
+{
+    shared.scan_pin(writer, reader, 0);
+}
+
+/// Looks at the one pin of each reader.
+fn scan_pins(shared: &Shared, writer: &mut WriterPass)
+    requires same { writer.old.register ≡ shared.now }
+    requires sizes { (shared.now.sizes.readers ≡ 8) × (shared.now.sizes.channels ≡ 1) }
+    requires met { SlotsAreMet shared.now.sizes writer.old.account }
+    ensures same { writer.new.register ≡ writer.old.register }
+    ensures whole { IsWhole shared.now.sizes writer.new.account }
+    ensures left { (writer.new.account.version ≡ writer.old.account.version)
+        × (writer.new.account.pool ≡ writer.old.account.pool) }
+{
+    for reader in 0..8 {
+        scan_pin(shared, writer, reader);
+    }
+}
+
+/// A whole scan at 8 readers and one channel, and the publish after it.
+fn publish_next(shared: &Shared, writer: &mut WriterPass) -> u32
+    requires same { writer.old.register ≡ shared.now }
+    requires sizes { (shared.now.sizes.readers ≡ 8) × (shared.now.sizes.channels ≡ 1)
+        × (0 < shared.now.sizes.segments) }
+    requires bare { word_at writer.old.account.pool 0 1 ≡ 0 }
+    requires room { writer.old.account.version < 4294967295 }
+    ensures same { writer.new.register ≡ writer.old.register }
+    ensures bare { word_at writer.new.account.pool 0 1 ≡ 0 }
+    ensures version { (result ≡ writer.old.account.version + 1)
+        × (writer.new.account.version ≡ result) }
+{
+    scan_slots(shared, writer);
+    scan_pins(shared, writer);
+    a_bare_root_names_itself();
     shared.publish(writer, 0)
 }
 
 /// N scans and publishes.
 fn publish_often(shared: &Shared, writer: &mut WriterPass, rounds: u32)
-    requires same { writer.old.origin ≡ shared.now }
-    requires readers { shared.now.sizes.readers ≡ 8 }
+    requires same { writer.old.register ≡ shared.now }
+    requires sizes { (shared.now.sizes.readers ≡ 8) × (shared.now.sizes.channels ≡ 1)
+        × (0 < shared.now.sizes.segments) }
+    requires bare { word_at writer.old.account.pool 0 1 ≡ 0 }
     requires first { writer.old.account.version ≡ 0 }
     requires few { rounds ≤ 1000000 }
 {
@@ -68,12 +120,15 @@ fn turn_once<L: Ledger>(
     reader: &mut ReaderPass,
     steps: &mut Steps<L>,
 ) -> bool
-    requires same { (writer.old.origin ≡ shared.now) × (reader.old.origin ≡ shared.now) }
-    requires readers { shared.now.sizes.readers ≡ 8 }
+    requires same { (writer.old.register ≡ shared.now) × (reader.old.register ≡ shared.now) }
+    requires sizes { (shared.now.sizes.readers ≡ 8) × (shared.now.sizes.channels ≡ 1)
+        × (0 < shared.now.sizes.segments) }
+    requires bare { word_at writer.old.account.pool 0 1 ≡ 0 }
     requires room { writer.old.account.version < 4294967295 }
     requires free { reader.old.notes.held ≡ None }
-    ensures same { (writer.new.origin ≡ writer.old.origin)
-        × (reader.new.origin ≡ reader.old.origin) }
+    ensures same { (writer.new.register ≡ writer.old.register)
+        × (reader.new.register ≡ reader.old.register) }
+    ensures bare { word_at writer.new.account.pool 0 1 ≡ 0 }
     ensures version { writer.new.account.version ≡ writer.old.account.version + 1 }
     ensures free { IsTrue result → reader.new.notes.held ≡ None }
 {
@@ -94,8 +149,10 @@ fn turn_often<L: Ledger>(
     rounds: u32,
     steps: &mut Steps<L>,
 )
-    requires same { (writer.old.origin ≡ shared.now) × (reader.old.origin ≡ shared.now) }
-    requires readers { shared.now.sizes.readers ≡ 8 }
+    requires same { (writer.old.register ≡ shared.now) × (reader.old.register ≡ shared.now) }
+    requires sizes { (shared.now.sizes.readers ≡ 8) × (shared.now.sizes.channels ≡ 1)
+        × (0 < shared.now.sizes.segments) }
+    requires bare { word_at writer.old.account.pool 0 1 ≡ 0 }
     requires first { writer.old.account.version ≡ 0 }
     requires free { reader.old.notes.held ≡ None }
     requires few { rounds ≤ 1000000 }
@@ -117,11 +174,44 @@ enum Kind {
     Copy,
 }
 
+/// The words of so many segments, all 0.
+fn zero_words(alloc: Global, segments: u16) -> Result<Vec<u64>>
+    requires { 1 ≤ segments }
+    ensures long { IfOk result (λ words. length words.items ≡ 256 * segments) }
+    ensures bare { IfOk result (λ words. word_at words.items 0 1 ≡ 0) }
+{
+    Ok(vec![in alloc; 0_u64; 256 * segments as usize]?)
+}
+
+/// A register of words whose root names itself alone.
+fn opened(
+    alloc: Global,
+    segments: u16,
+    readers: u8,
+    channels: u8,
+    words: &[u64],
+) -> Result<(Shared, WriterPass, ReaderPasses)>
+    requires readers { (1 ≤ readers) × (readers ≤ 8) }
+    requires channels { (1 ≤ channels) × (channels ≤ 32) }
+    requires words { (256 ≤ length words.now) × (length words.now % 256 ≡ 0)
+        × (length words.now ≤ 16776960) }
+    requires bare { word_at words.now 0 1 ≡ 0 }
+    ensures sizes { IfOk result (λ made. made.0.sizes
+        ≡ record { segments = segments; readers = readers; channels = channels }) }
+    ensures writer { IfOk result (λ made. made.1
+        ≡ opening_writer made.0 0 0 (pool_of segments words.now)) }
+    ensures passes { IfOk result (λ made. made.2 ≡ fresh_passes made.0 readers) }
+    ensures bare { word_at (pool_of segments words.now) 0 1 ≡ 0 }
+{
+    a_bare_root_names_itself();
+    Ok(Shared::open(alloc, segments, readers, channels, 0, 0, words)?)
+}
+
 fn measure<L: Ledger>(alloc: Global, blank: Blank, kind: Kind, rounds: u32) -> Result<()>
     requires blank { (blank.name ≡ L.name) × (blank.parts ≡ L.parts) × (0 < L.parts) }
 {
-    let words = vec![in alloc; 0_u64; 256]?;
-    let (shared, mut writer, mut passes) = Shared::open(alloc, 64, 8, 1, 0, 0, &words)?;
+    let words = zero_words(alloc, 1)?;
+    let (shared, mut writer, mut passes) = opened(alloc, 64, 8, 1, &words)?;
     let Some(mut reader) = passes.next() else {
         return Ok(());
     };
@@ -139,9 +229,9 @@ fn measure<L: Ledger>(alloc: Global, blank: Blank, kind: Kind, rounds: u32) -> R
 
 /// Opens the default pool, N times.
 fn open_often(alloc: Global, rounds: u32) -> Result<()> {
-    let words = vec![in alloc; 0_u64; 256 * SEGMENTS as usize]?;
+    let words = zero_words(alloc, SEGMENTS)?;
     for _ in 0..rounds {
-        let (_shared, _writer, _passes) = Shared::open(alloc, SEGMENTS, 1, 32, 0, 0, &words)?;
+        let (_shared, _writer, _passes) = opened(alloc, SEGMENTS, 1, 32, &words)?;
     }
     Ok(())
 }

@@ -1,1 +1,3 @@
 pub mod Samples
+pub mod Pins
+pub mod Bare

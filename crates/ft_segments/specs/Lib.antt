@@ -1,3 +1,4 @@
 pub mod Packing
 pub mod Walk
 pub mod Laws
+pub mod Pins

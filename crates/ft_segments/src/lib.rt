@@ -1,11 +1,11 @@
 //! How a song lies in segments of 256 words: numbers packed into words, and the walk over the ids
 //! by which a root names all segments of a version.
 //!
-//! There is hardly any code here. `specs/Packing` says how numbers, bytes and ids lie in words, and
-//! `specs/Walk` which segments a root names. docs/WORDS.md draws them. The functions are laws: they
-//! do nothing, and their contracts say what holds.
+//! Nothing here runs. `specs/Packing` says how numbers, bytes and ids lie in words, `specs/Walk`
+//! which segments a root names, and `specs/Pins` which of them a pin of a sample's root holds.
+//! The functions are laws: their contracts say what holds. docs/WORDS.md draws the words.
 #![tactic(auto)]
 
 mod laws;
 
-pub use laws::{sample_is_of_it, sample_stays};
+pub use laws::{a_bare_root_names_itself, held_by_a_pin_is_named, sample_is_of_it, sample_stays};

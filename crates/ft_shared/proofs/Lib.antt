@@ -3,3 +3,8 @@ pub mod Readers
 pub mod Writes
 pub mod Publish
 pub mod Opens
+mod Segments
+pub mod Fills
+pub mod Seats
+pub mod Pinned
+pub mod Found

@@ -1,7 +1,8 @@
 -- What the writer and the readers know at first, and what the writer's steps make of it.
-use Rattle.std.specs.Prelude.{◌≡◌, ℕ, ◌+◌, ◌-◌, ◌*◌, ◌==◌, slice_set, slice_index_or, Bool, true, false, if◌then◌else◌, List, [], ◌∷◌, ◌++◌, length, drop, replicate, Option, Some, None}
+use Rattle.std.specs.Prelude.{◌≡◌, ◌⊎◌, ℕ, ◌+◌, ◌-◌, ◌*◌, ◌<◌, ◌≤◌, ◌==◌, slice_set, slice_index_or, Bool, true, false, if◌then◌else◌, List, [], ◌∷◌, ◌++◌, length, drop, replicate, Option, Some, None, Contains}
 use Rattle.ft_shared.specs.declared.law.Sizes.{Sizes}
 use Rattle.ft_shared.specs.declared.law.Opening.{Opening}
+use Rattle.ft_shared.specs.declared.law.PinAnswer.{PinAnswer}
 use Rattle.ft_shared.specs.declared.law.Notes.{Notes}
 use Rattle.ft_shared.specs.declared.law.Hold.{Hold}
 use Rattle.ft_shared.specs.declared.law.Slot.{Slot}
@@ -9,7 +10,9 @@ use Rattle.ft_shared.specs.declared.law.Account.{Account}
 use Rattle.ft_shared.specs.declared.law.WordStep.TheVariants.{Load, Store, Swap}
 use Rattle.ft_shared.specs.declared.law.View.{View}
 use Rattle.ft_shared.specs.declared.law.View.TheVariants.{Reader, Writer}
-use Rattle.ft_shared.specs.Layout.{current_at, leavers_at, pool_at}
+use Rattle.ft_segments.specs.Walk.{sample_walk, sample_uses}
+use Rattle.ft_shared.specs.Layout.{current_at, leavers_at, pin_at, pool_at, segment_at}
+use Rattle.ft_shared.specs.History.{IsOfVersion}
 
 -- ---- slots
 
@@ -42,16 +45,20 @@ opening_account sizes version root pool = record {
   scans = 0;
   scan = [];
   gone = 0;
+  pin_scan = [];
+  pinned = 0;
   settled = [];
   history = record { version = version; root = root; pool = pool } ∷ [];
   pool = pool;
+  filled = replicate sizes.segments version;
   steps = [];
 }
 
 -- the same before any pass was made
 abbrev pub first_account : Opening → Account
 first_account key =
-    record (opening_account key.sizes key.version key.root (drop (pool_at key.sizes) key.words.value.items)) { given = 0 }
+    record (opening_account key.sizes key.version key.root
+    (drop (pool_at key.sizes) key.words.value.items)) { given = 0 }
 
 -- a reader's notes before its first call
 abbrev pub new_notes : Sizes → ℕ → Notes
@@ -61,6 +68,7 @@ new_notes sizes number = record {
   held = None;
   latest = None;
   seen = 0;
+  pins = replicate sizes.channels None;
   looks = [];
   takes = [];
   reads = [];
@@ -96,6 +104,7 @@ after_begin account = record account {
   begun = true;
   scans = account.scans + 1;
   scan = [];
+  pin_scan = [];
   steps = account.steps ++ Load current_at ∷ [];
 }
 
@@ -103,7 +112,8 @@ after_begin account = record account {
 abbrev pub next_slot : Account → ℕ
 next_slot account = length account.scan
 
--- a slot is free where it is not current and all that had taken its version have left, by these leavers
+-- a slot is free where it is not current and all that had taken its version have left, by these
+-- leavers
 abbrev pub is_free : Account → ℕ → ℕ → Bool
 is_free account slot gone =
     if slot == account.slot then false else (slot_at account slot).start == gone
@@ -119,13 +129,77 @@ after_scan account gone = record account {
   gone = gone;
   scan = account.scan ++ answer_of account (next_slot account) gone ∷ [];
   slots = slice_set account.slots (next_slot account)
-      (record (slot_at account (next_slot account)) { free = is_free account (next_slot account) gone });
+      (record (slot_at account (next_slot account)) {
+        free = is_free account (next_slot account) gone;
+      });
   steps = account.steps ++ Load (leavers_at (next_slot account)) ∷ [];
 }
 
 -- every slot was looked at since a scan began
+abbrev pub SlotsAreMet : Sizes → Account → Type 0
+SlotsAreMet sizes account = (account.begun ≡ true) × (length account.scan ≡ sizes.readers + 2)
+
+-- what the word of a pin says: 0 that there is none, and else its root segment + 1
+abbrev pub pinned_root : ℕ → Option ℕ
+pinned_root word = if word == 0 then None else Some (word - 1)
+
+abbrev pub pin_answer : ℕ → ℕ → Option ℕ → PinAnswer
+pin_answer reader channel root = record { reader = reader; channel = channel; root = root }
+
+-- a pin was looked at by one load of its word, which was this
+abbrev pub after_pin_scan : Account → ℕ → ℕ → ℕ → Account
+after_pin_scan account reader channel word = record account {
+  pin_scan = account.pin_scan ++ pin_answer reader channel (pinned_root word) ∷ [];
+  pinned = word;
+  steps = account.steps ++ Load (pin_at account.sizes reader channel) ∷ [];
+}
+
+-- The scan answered this of the pin
+abbrev pub IsPinAnswer : Account → ℕ → ℕ → Option ℕ → Type 0
+IsPinAnswer account reader channel root =
+    Contains account.pin_scan (pin_answer reader channel root)
+
+-- The scan looked at the pin
+abbrev pub IsPinMet : Account → ℕ → ℕ → Type 0
+IsPinMet account reader channel = (root : Option ℕ) × IsPinAnswer account reader channel root
+
+-- every slot, and then every pin was looked at since a scan began
 abbrev pub IsWhole : Sizes → Account → Type 0
-IsWhole sizes account = (account.begun ≡ true) × (length account.scan ≡ sizes.readers + 2)
+IsWhole sizes account = SlotsAreMet sizes account
+    × ((reader channel : ℕ) → reader < sizes.readers → channel < sizes.channels
+    → IsPinMet account reader channel)
+
+-- A scan answered this version
+abbrev pub IsAnswered : Account → ℕ → Type 0
+IsAnswered account version = Contains account.scan (Some version)
+
+-- A scan found the segment: it is one of the current version, or of a version that was answered, or
+-- a pinned root that was answered names it, by the words last written
+abbrev pub Found : Account → ℕ → Type 0
+Found account segment =
+    IsOfVersion account.history account.version segment
+    ⊎ ((version : ℕ) × IsAnswered account version × IsOfVersion account.history version segment)
+    ⊎ ((reader channel root : ℕ) × IsPinAnswer account reader channel (Some root)
+    × (1 ≤ sample_uses segment (sample_walk account.pool root)))
+
+-- The pass may fill the segment
+abbrev pub MayFill : Sizes → Account → ℕ → Type 0
+MayFill sizes account segment = IsWhole sizes account × (Found account segment → ⊥)
+
+-- ---- words of the pool
+
+-- a word of a segment was read by one load
+abbrev pub after_read : Account → ℕ → ℕ → Account
+after_read account segment at =
+    record account { steps = account.steps ++ Load (segment_at account.sizes segment at) ∷ [] }
+
+-- a word of a segment was filled for the next version by one store
+abbrev pub after_fill : Account → ℕ → ℕ → ℕ → Account
+after_fill account segment at word = record account {
+  pool = slice_set account.pool (segment * 256 + at) word;
+  filled = slice_set account.filled segment (account.version + 1);
+  steps = account.steps ++ Store (segment_at account.sizes segment at) ∷ [];
+}
 
 -- ---- a publish
 
@@ -144,10 +218,12 @@ after_publish account slot root count = record account {
   slot = slot;
   root = root;
   slots = slice_set
-      (slice_set account.slots account.slot (record (slot_at account account.slot) { start = count }))
+      (slice_set account.slots account.slot
+      (record (slot_at account account.slot) { start = count }))
       slot (new_slot (account.version + 1));
   begun = false;
   scan = [];
+  pin_scan = [];
   history = account.history
       ++ record { version = account.version + 1; root = root; pool = account.pool } ∷ [];
   steps = account.steps ++ Swap current_at ∷ [];

@@ -6,7 +6,7 @@ use Rattle.ft_shared.specs.declared.law.View.TheVariants.{Reader, Writer}
 use Rattle.ft_shared.specs.declared.reader.ReaderPass.TheInside.{Inside as ReaderInside}
 use Rattle.ft_shared.specs.declared.writer.WriterPass.TheInside.{Inside as WriterInside}
 use Rattle.ft_shared.specs.Counts.{sum_below}
-use Rattle.ft_shared.specs.Account.{hold_of, account_of, IsWhole}
+use Rattle.ft_shared.specs.Account.{hold_of, account_of, SlotsAreMet}
 use Rattle.ft_shared.specs.Register.{marks}
 use Rattle.ft_shared.specs.Pass.{ReaderState, WriterState, reader_at, writer_at}
 
@@ -25,6 +25,8 @@ pub record IsReaderPass (pass : ReaderInside) : Type 0 where
   pub seat : pass.place.me ≡ (Reader (hold_in pass), [])
   pub slot : (hold_in pass).slot ≡ pass.slot
   pub inside : pass.slot < (hold_in pass).notes.sizes.readers + 2
+  pub number : ((hold_in pass).notes.number ≡ pass.number)
+      × (pass.number < (hold_in pass).notes.sizes.readers)
 
 abbrev pub writer_state : WriterInside → WriterState
 writer_state pass = writer_at pass.place.table_id (account_in pass)
@@ -37,6 +39,6 @@ pub record IsWriterPass (pass : WriterInside) : Type 0 where
   pub inside : pass.slot < pass.readers + 2
   pub slots : (account_in pass).slots ≡ pass.slots
   pub deep : length pass.slots ≡ 10
-  -- a whole scan found at most as many slots held as there are readers
-  pub whole : IsWhole (account_in pass).sizes (account_in pass)
+  -- a scan of all slots found at most as many slots held as there are readers
+  pub whole : SlotsAreMet (account_in pass).sizes (account_in pass)
       → sum_below (marks (account_in pass)) (pass.readers + 2) ≤ pass.readers

@@ -2,6 +2,8 @@ pub mod Layout
 pub mod Counts
 pub mod History
 pub mod Account
+pub mod Segments
+pub mod HeldSegments
 pub mod Register
 pub mod Plays
 pub mod Pass

@@ -1,63 +1,66 @@
 -- What contracts see of a register and of its passes.
-use Rattle.std.specs.Prelude.{◌≡◌, ◌≢◌, ℕ, zero, suc, ◌+◌, ◌<◌, ◌≤◌, true, false, List, [], ◌∷◌, ◌++◌, Some, None}
+use Rattle.std.specs.Prelude.{◌≡◌, ◌≢◌, ℕ, zero, suc, ◌+◌, ◌<◌, ◌≤◌, true, false, slice_set, List, [], ◌∷◌, ◌++◌, Option, Some, None}
 use Rattle.atomic_table.specs.Seated.{TableId}
 use Rattle.ft_shared.specs.declared.law.Sizes.{Sizes}
 use Rattle.ft_shared.specs.declared.law.TakenVersion.{TakenVersion}
+use Rattle.ft_shared.specs.declared.law.WordRead.{WordRead}
+use Rattle.ft_shared.specs.declared.law.Pin.{Pin}
 use Rattle.ft_shared.specs.declared.law.Notes.{Notes}
 use Rattle.ft_shared.specs.declared.law.Hold.{Hold}
 use Rattle.ft_shared.specs.declared.law.Account.{Account}
-use Rattle.ft_shared.specs.declared.law.WordStep.TheVariants.{Load, Add}
-use Rattle.ft_shared.specs.Layout.{current_at, leavers_at}
+use Rattle.ft_shared.specs.declared.law.WordStep.TheVariants.{Load, Store, Add}
+use Rattle.ft_shared.specs.Layout.{current_at, leavers_at, pin_at, segment_at}
+use Rattle.ft_shared.specs.Counts.{pin_of}
 use Rattle.ft_shared.specs.Account.{opening_account, new_notes, slot_at, after_clear, after_publish}
 
--- Which register it is, and how large. A pass came from the register whose origin it has.
-pub record Origin : Type 0 where
+-- Which register it is, and how large. A pass came from the register that it names
+pub record RegisterId : Type 0 where
   pub table : TableId
   pub sizes : Sizes
 
 -- slot: that of the version which the pass took last
 pub record ReaderState : Type 0 where
-  pub origin : Origin
+  pub register : RegisterId
   pub notes : Notes
   pub slot : ℕ
 
 pub record WriterState : Type 0 where
-  pub origin : Origin
+  pub register : RegisterId
   pub account : Account
 
 -- the passes behind seats of a table
 abbrev pub reader_at : TableId → Hold → ReaderState
 reader_at table hold = record {
-  origin = record { table = table; sizes = hold.notes.sizes };
+  register = record { table = table; sizes = hold.notes.sizes };
   notes = hold.notes;
   slot = hold.slot;
 }
 
 abbrev pub writer_at : TableId → Account → WriterState
 writer_at table account = record {
-  origin = record { table = table; sizes = account.sizes };
+  register = record { table = table; sizes = account.sizes };
   account = account;
 }
 
 -- the writer's pass of a register that was just opened
-abbrev pub opening_writer : Origin → ℕ → ℕ → List ℕ → WriterState
-opening_writer origin version root pool = record {
-  origin = origin;
-  account = opening_account origin.sizes version root pool;
+abbrev pub opening_writer : RegisterId → ℕ → ℕ → List ℕ → WriterState
+opening_writer register version root pool = record {
+  register = register;
+  account = opening_account register.sizes version root pool;
 }
 
 -- a pass that was never used
-abbrev pub fresh_pass : Origin → ℕ → ReaderState
-fresh_pass origin number = record {
-  origin = origin;
-  notes = new_notes origin.sizes number;
+abbrev pub fresh_pass : RegisterId → ℕ → ReaderState
+fresh_pass register number = record {
+  register = register;
+  notes = new_notes register.sizes number;
   slot = 0;
 }
 
 -- passes that were never used, with the numbers below n
-abbrev pub fresh_passes : Origin → ℕ → List ReaderState
-fresh_passes origin zero = []
-fresh_passes origin (suc n) = fresh_passes origin n ++ fresh_pass origin n ∷ []
+abbrev pub fresh_passes : RegisterId → ℕ → List ReaderState
+fresh_passes register zero = []
+fresh_passes register (suc n) = fresh_passes register n ++ fresh_pass register n ∷ []
 
 -- the look is noted, and what it gave is the greatest version seen; it is one load of CURRENT
 abbrev pub note_look : Notes → ℕ → Notes
@@ -76,6 +79,56 @@ note_take notes taken = record notes {
   latest = None;
   seen = taken.version;
   steps = notes.steps ++ Add current_at ∷ [];
+}
+
+-- what is noted of a word that was read of the held version
+abbrev pub held_read : Option TakenVersion → ℕ → ℕ → ℕ → List WordRead
+held_read None segment at word = []
+held_read (Some taken) segment at word =
+    record { version = taken.version; pin = None; segment = segment; at = at; word = word } ∷ []
+
+-- the word is noted, with the version that is held; it is one load of it
+abbrev pub note_word : Notes → ℕ → ℕ → ℕ → Notes
+note_word notes segment at word = record notes {
+  reads = notes.reads ++ held_read notes.held segment at word;
+  steps = notes.steps ++ Load (segment_at notes.sizes segment at) ∷ [];
+}
+
+-- a pin of this root, set from the version that is held
+abbrev pub pin_from : Option TakenVersion → ℕ → Option Pin
+pin_from None root = None
+pin_from (Some taken) root = Some (record { version = taken.version; root = root })
+
+-- the channel's pin names this root from now on, by one store to its word
+abbrev pub note_pin : Notes → ℕ → ℕ → Notes
+note_pin notes channel root = record notes {
+  pins = slice_set notes.pins channel (pin_from notes.held root);
+  steps = notes.steps ++ Store (pin_at notes.sizes notes.number channel) ∷ [];
+}
+
+-- the channel has no pin from now on, by one store to its word
+abbrev pub note_unpin : Notes → ℕ → Notes
+note_unpin notes channel = record notes {
+  pins = slice_set notes.pins channel None;
+  steps = notes.steps ++ Store (pin_at notes.sizes notes.number channel) ∷ [];
+}
+
+-- what is noted of a word that was read by a pin
+abbrev pub pin_read : Option Pin → ℕ → ℕ → ℕ → List WordRead
+pin_read None segment at word = []
+pin_read (Some pin) segment at word = record {
+  version = pin.version;
+  pin = Some pin.root;
+  segment = segment;
+  at = at;
+  word = word;
+} ∷ []
+
+-- the word is noted, with the channel's pin and its version; it is one load of it
+abbrev pub note_pinned_word : Notes → ℕ → ℕ → ℕ → ℕ → Notes
+note_pinned_word notes channel segment at word = record notes {
+  reads = notes.reads ++ pin_read (pin_of notes channel) segment at word;
+  steps = notes.steps ++ Load (segment_at notes.sizes segment at) ∷ [];
 }
 
 -- no version is held, by one addition to the leavers of its slot

@@ -1,23 +1,28 @@
--- What each kind of step tells the seat that makes it: of the step, the seat before, the number found and the seat after.
-use Rattle.std.specs.Prelude.{◌≡◌, ◌≢◌, ℕ, ◌+◌, ◌<◌, ◌≤◌, true, length}
+-- What each kind of step tells the seat that makes it: of the step, the seat before, the number
+-- found and the seat after.
+use Rattle.std.specs.Prelude.{◌≡◌, ◌≢◌, ℕ, ◌+◌, ◌<◌, ◌≤◌, true, IsNone}
 use Rattle.atomic_table.specs.Table.{Step, Allows}
 use Rattle.atomic_table.specs.Seated.{TableId}
 use Rattle.ft_shared.specs.declared.law.Opening.{Opening}
 use Rattle.ft_shared.specs.declared.law.Hold.{Hold}
 use Rattle.ft_shared.specs.declared.law.View.{View}
 use Rattle.ft_shared.specs.declared.law.View.TheVariants.{Spent, Reader, Writer}
-use Rattle.ft_shared.specs.Layout.{current_at, leavers_at, version_in, slot_in, root_in, count_in}
-use Rattle.ft_shared.specs.Counts.{sum_below}
-use Rattle.ft_shared.specs.Account.{hold_of, account_of, slot_at, next_slot, is_free, new_notes, after_begin, after_scan, after_clear, after_publish}
+use Rattle.ft_segments.specs.Packing.{word_at}
+use Rattle.ft_shared.specs.Layout.{current_at, leavers_at, pin_at, segment_at, version_in, slot_in, root_in, count_in}
+use Rattle.ft_shared.specs.Counts.{sum_below, pin_of}
+use Rattle.ft_shared.specs.History.{placed_at, HasVersion}
+use Rattle.ft_shared.specs.Account.{hold_of, account_of, slot_at, next_slot, is_free, new_notes, after_begin, after_scan, after_pin_scan, after_read, after_fill, after_clear, after_publish}
 use Rattle.ft_shared.specs.Register.{SeatView, RegisterRule, marks}
-use Rattle.ft_shared.specs.Pass.{note_look, note_take, note_leave}
+use Rattle.ft_shared.specs.Pass.{note_look, note_take, note_leave, note_word, pin_from, note_pin, note_unpin, note_pinned_word}
 
 -- what a kind of step says of itself, the seat before, the number found and the seat after
 abbrev pub StepKind : Type 1
 StepKind = Step (Unit {0}) → SeatView → ℕ → SeatView → Type 0
 
--- A seat of the table may step on a word, which becomes `change` of what it was: the rule stays kept, and the seat can be told this
-abbrev pub MayStep : Opening → TableId → TableId → ℕ → SeatView → ℕ → (ℕ → ℕ) → (ℕ → SeatView → Type 0) → Type 0
+-- A seat of the table may step on a word, which becomes `change` of what it was: the rule stays
+-- kept, and the seat can be told this
+abbrev pub MayStep : Opening → TableId → TableId → ℕ → SeatView → ℕ → (ℕ → ℕ)
+    → (ℕ → SeatView → Type 0) → Type 0
 MayStep key table home seat view word change told =
     (home ≡ table) × (word < table.words)
     × Allows (RegisterRule key) table.slots seat view word change told
@@ -56,6 +61,46 @@ IsLeave step before found after =
     (after ≡ (Reader (after_leave (hold_of before.0)), before.1))
     × (step.word ≡ leavers_at (hold_of before.0).slot)
 
+abbrev pub after_word : Hold → ℕ → ℕ → ℕ → Hold
+after_word hold segment at word = record hold { notes = note_word hold.notes segment at word }
+
+abbrev pub after_pin : Hold → ℕ → ℕ → Hold
+after_pin hold channel root = record hold { notes = note_pin hold.notes channel root }
+
+abbrev pub after_unpin : Hold → ℕ → Hold
+after_unpin hold channel = record hold { notes = note_unpin hold.notes channel }
+
+abbrev pub after_pinned_word : Hold → ℕ → ℕ → ℕ → ℕ → Hold
+after_pinned_word hold channel segment at word =
+    record hold { notes = note_pinned_word hold.notes channel segment at word }
+
+abbrev pub IsWordRead : StepKind
+IsWordRead step before found after = (segment at : ℕ) → at < 256
+    → step.word ≡ segment_at (hold_of before.0).notes.sizes segment at
+    → after ≡ (Reader (after_word (hold_of before.0) segment at found), before.1)
+
+-- the pin word of a channel becomes the root + 1, and the pass has that pin
+abbrev pub IsPin : StepKind
+IsPin step before found after = (channel root : ℕ)
+    → channel < (hold_of before.0).notes.sizes.channels
+    → step.word ≡ pin_at (hold_of before.0).notes.sizes (hold_of before.0).notes.number channel
+    → step.first ≡ root + 1
+    → (after ≡ (Reader (after_pin (hold_of before.0) channel root), before.1))
+    × (pin_of (note_pin (hold_of before.0).notes channel root) channel
+    ≡ pin_from (hold_of before.0).notes.held root)
+
+-- the pin word of a channel becomes 0
+abbrev pub IsUnpin : StepKind
+IsUnpin step before found after = (channel : ℕ)
+    → step.word ≡ pin_at (hold_of before.0).notes.sizes (hold_of before.0).notes.number channel
+    → after ≡ (Reader (after_unpin (hold_of before.0) channel), before.1)
+
+-- a word is read by the pin of this channel
+abbrev pub IsPinnedRead : ℕ → StepKind
+IsPinnedRead channel step before found after = (segment at : ℕ) → at < 256
+    → step.word ≡ segment_at (hold_of before.0).notes.sizes segment at
+    → after ≡ (Reader (after_pinned_word (hold_of before.0) channel segment at found), before.1)
+
 -- ---- the writer's steps
 
 abbrev pub IsScanBegin : StepKind
@@ -63,15 +108,19 @@ IsScanBegin step before found after =
     (after ≡ (Writer (after_begin (account_of before.0)), before.1))
     × (step.word ≡ current_at)
 
--- a slot that was found free before is found free again, and a whole scan finds at most as many slots held as there are readers
+-- the slot's version is in the history, a slot that was found free before is found free again, and
+-- a whole scan finds at most as many slots held as there are readers
 abbrev pub IsSlotScan : StepKind
 IsSlotScan step before found after =
     (after ≡ (Writer (after_scan (account_of before.0) found), before.1))
     × ((slot_at (account_of before.0) (next_slot (account_of before.0))).free ≡ true
     → is_free (account_of before.0) (next_slot (account_of before.0)) found ≡ true)
     × (next_slot (account_of before.0) + 1 ≡ (account_of before.0).sizes.readers + 2
-    → sum_below (marks (after_scan (account_of before.0) found)) ((account_of before.0).sizes.readers + 2)
+    → sum_below (marks (after_scan (account_of before.0) found))
+    ((account_of before.0).sizes.readers + 2)
     ≤ (account_of before.0).sizes.readers)
+    × HasVersion (account_of before.0).history
+    (slot_at (account_of before.0) (next_slot (account_of before.0))).version
     × (step.word ≡ leavers_at (next_slot (account_of before.0)))
 
 -- the slot is not the current one
@@ -80,12 +129,38 @@ IsClear step before found after = (slot : ℕ) → step.word ≡ leavers_at slot
     → (after ≡ (Writer (after_clear (account_of before.0) slot), before.1))
     × (slot ≢ (account_of before.0).slot)
 
--- the count that was found is at most the readers
+-- the count that was found is at most the readers, and no version of the history had the next
+-- number
 abbrev pub IsPublish : StepKind
 IsPublish step before found after =
-    (after ≡ (Writer (after_publish (account_of before.0) (slot_in step.first) (root_in step.first) (count_in found)), before.1))
+    (after ≡ (
+      Writer (after_publish (account_of before.0) (slot_in step.first)
+          (root_in step.first) (count_in found)),
+      before.1,
+    ))
     × (count_in found ≤ (account_of before.0).sizes.readers)
+    × IsNone (placed_at (account_of before.0).history ((account_of before.0).version + 1))
     × (step.word ≡ current_at)
+
+-- the word that was found is 0, or a root segment + 1
+abbrev pub IsPinScan : StepKind
+IsPinScan step before found after = (reader channel : ℕ)
+    → channel < (account_of before.0).sizes.channels
+    → step.word ≡ pin_at (account_of before.0).sizes reader channel
+    → (after ≡ (Writer (after_pin_scan (account_of before.0) reader channel found), before.1))
+    × (found ≤ 65536)
+
+-- the word that was found is the one last written there
+abbrev pub IsPoolRead : StepKind
+IsPoolRead step before found after = (segment at : ℕ) → at < 256
+    → step.word ≡ segment_at (account_of before.0).sizes segment at
+    → (after ≡ (Writer (after_read (account_of before.0) segment at), before.1))
+    × (found ≡ word_at (account_of before.0).pool segment at)
+
+abbrev pub IsFill : StepKind
+IsFill step before found after = (segment at : ℕ) → at < 256
+    → step.word ≡ segment_at (account_of before.0).sizes segment at
+    → after ≡ (Writer (after_fill (account_of before.0) segment at step.first), before.1)
 
 -- ---- a seat for a reader
 
@@ -95,5 +170,6 @@ after_give (Writer account) = Writer (record account { given = account.given + 1
 after_give view = view
 
 abbrev pub given_pass : View → View
-given_pass (Writer account) = Reader (record { notes = new_notes account.sizes account.given; slot = 0 })
+given_pass (Writer account) =
+    Reader (record { notes = new_notes account.sizes account.given; slot = 0 })
 given_pass view = Spent

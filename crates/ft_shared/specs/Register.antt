@@ -9,10 +9,11 @@ use Rattle.ft_shared.specs.declared.law.Hold.{Hold}
 use Rattle.ft_shared.specs.declared.law.Account.{Account}
 use Rattle.ft_shared.specs.declared.law.View.{View}
 use Rattle.ft_shared.specs.declared.law.View.TheVariants.{Spent, Reader, Writer}
-use Rattle.ft_shared.specs.Layout.{current_at, current_word, leavers_at, pins_at, pool_at, word_count}
-use Rattle.ft_shared.specs.Counts.{bit, total, sum_below, pass_sum, one, has_number, holders}
+use Rattle.ft_shared.specs.Layout.{current_at, current_word, leavers_at, pin_at, pool_at, word_count}
+use Rattle.ft_shared.specs.Counts.{bit, total, sum_below, pass_sum, one, has_number, holders, pin_amount}
 use Rattle.ft_shared.specs.History.{Agrees, IsHistory}
 use Rattle.ft_shared.specs.Account.{slot_at, next_slot}
+use Rattle.ft_shared.specs.Segments.{SegmentRule}
 
 -- the words, and the view of each seat
 abbrev pub TableState : Type 0
@@ -43,10 +44,12 @@ abbrev pub amount : Bool → Bool → Bool → ℕ → ℕ
 amount current free met holding =
     if current then 0 else (if free then 0 else (if met then 1 else holding))
 
--- what the slot counts in a scan: nothing where it is current or free, 1 where it was found held, and the passes that hold it where it was not looked at yet
+-- what the slot counts in a scan: nothing where it is current or free, 1 where it was found held,
+-- and the passes that hold it where it was not looked at yet
 abbrev pub scan_count : Account → List View → ℕ → ℕ
 scan_count account views slot =
-    amount (slot == account.slot) (slot_at account slot).free (nat_lt slot (next_slot account)) (holders slot views)
+    amount (slot == account.slot) (slot_at account slot).free
+    (nat_lt slot (next_slot account)) (holders slot views)
 
 -- the same after a whole scan: 1 for each slot found held
 abbrev pub marks : Account → ℕ → ℕ
@@ -61,7 +64,8 @@ pub record RegisterRule (key : Opening) (state : TableState) : Type 0 where
   pub deep : length account.slots ≡ 10
   pub ranges : (account.version < 4294967296) × (account.root < 65536)
       × (account.slot < key.sizes.readers + 2)
-  -- the current word: the last version of the history and its root, the slot that bears it, and how many passes hold it
+  -- the current word: the last version of the history and its root, the slot that bears it, and how
+  -- many passes hold it
   pub current : slice_index state.words current_at
       ≡ current_word account.version account.slot account.root (holders account.slot state.views)
   pub bears : (slot_at account account.slot).version ≡ account.version
@@ -70,22 +74,31 @@ pub record RegisterRule (key : Opening) (state : TableState) : Type 0 where
   pub fresh : slice_index state.words (leavers_at account.slot) ≡ 0
   -- the leaver counts: of those that had taken another slot's version, these hold it still
   pub leavers : (slot : ℕ) → slot < key.sizes.readers + 2 → slot ≢ account.slot
-      → (slot_at account slot).start ≡ slice_index state.words (leavers_at slot) + holders slot state.views
+      → (slot_at account slot).start
+      ≡ slice_index state.words (leavers_at slot) + holders slot state.views
   pub starts : (slot : ℕ) → (slot_at account slot).start ≤ key.sizes.readers
   -- free slots stay free: nobody holds one, and it is not current
   pub unused : (slot : ℕ) → (slot_at account slot).free ≡ true
       → (slot ≢ account.slot) × (holders slot state.views ≡ 0)
-  -- the scan count: the slots found held, and the passes that hold one not looked at yet, are at most the readers
+  -- the scan count: the slots found held, and the passes that hold one not looked at yet, are at
+  -- most the readers
   pub scanned : account.begun ≡ true
       → sum_below (scan_count account state.views) (key.sizes.readers + 2) ≤ key.sizes.readers
-  -- the passes: each number below the passes made is that of one pass, settled ones included, and there is no other number
-  pub count : (total (pass_sum one) state.views ≡ account.given) × (account.given ≤ key.sizes.readers)
-  pub numbers : (number : ℕ) → total (pass_sum (has_number number)) state.views ≡ bit (nat_lt number account.given)
-  -- no pin stands, and the words of the pool are those last written
-  pub unpinned : (pin : ℕ) → pin < key.sizes.readers * key.sizes.channels
-      → slice_index state.words (pins_at key.sizes + pin) ≡ 0
+  -- the passes: each number below the passes made is that of one pass, settled ones included, and
+  -- there is no other number
+  pub count : (total (pass_sum one) state.views ≡ account.given)
+      × (account.given ≤ key.sizes.readers)
+  pub numbers : (number : ℕ)
+      → total (pass_sum (has_number number)) state.views ≡ bit (nat_lt number account.given)
+  -- the pin words: the pin that the pass with this number has on the channel; 0 where it has none,
+  -- or there is no such pass
+  pub pins : (reader channel : ℕ) → reader < key.sizes.readers → channel < key.sizes.channels
+      → slice_index state.words (pin_at key.sizes reader channel)
+      ≡ total (pass_sum (pin_amount reader channel)) state.views
+  -- the words of the pool are those last written
   pub stored : (length account.pool ≡ 256 * key.sizes.segments)
       × ((n : ℕ) → slice_index state.words (pool_at key.sizes + n) ≡ slice_index account.pool n)
+  pub segments : SegmentRule key.sizes state.views account
   pub settled : All (Stands key account) account.settled
   pub each_seat : (seat : ℕ) (view : View) → get_elem? state.views seat ≡ some view
       → Fits key account writer seat view

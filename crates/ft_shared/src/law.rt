@@ -22,8 +22,11 @@ pub struct Sizes {
 #[derive(Drop)]
 pub(crate) struct Opening {
     pub sizes: Sizes,
+    /// The number of the first version, 0 to 2^32 - 1.
     pub version: u64,
+    /// The number of its root segment, 0 to 65,535.
     pub root: u64,
+    /// The words of the whole table.
     pub words: Snapshot<Vec<u64>>,
 }
 
@@ -59,6 +62,24 @@ pub struct WordRead {
     pub word: u64,
 }
 
+/// A pin of a channel.
+pub struct Pin {
+    /// The number of the version from which it was set, 0 to 2^32 - 1.
+    pub version: u64,
+    /// The number of the segment that it names, the root of a sample, 0 to 65,535.
+    pub root: u64,
+}
+
+/// What a scan answered of a pin.
+pub struct PinAnswer {
+    /// The number of the reader's pass, 0 to 7.
+    pub reader: u64,
+    /// The channel, 0 to 31.
+    pub channel: u64,
+    /// The root segment of the pin that stood, if one did.
+    pub root: Option<u64>,
+}
+
 /// An atomic step, with the number of its word in the table.
 pub enum WordStep {
     Load(u64),
@@ -78,6 +99,8 @@ pub struct Notes {
     pub latest: Option<u64>,
     /// The greatest version that it has seen.
     pub seen: u64,
+    /// Its pins by channel.
+    pub pins: [Option<Pin>; 0],
     /// Its looks, takes and reads, each list in the order of the calls.
     pub looks: [u64; 0],
     pub takes: [TakenVersion; 0],
@@ -109,25 +132,35 @@ pub struct Account {
     pub sizes: Sizes,
     /// How many readers' passes were made, 0 to 8.
     pub given: u64,
-    /// The current version, its slot and its root segment.
+    /// The number of the current version, 0 to 2^32 - 1.
     pub version: u64,
+    /// Its slot, 0 to 9.
     pub slot: u64,
+    /// The number of its root segment, 0 to 65,535.
     pub root: u64,
     /// What it knows of each of ten slots, of which readers + 2 are used.
     pub slots: [Slot; 0],
-    /// Whether a scan has begun since the last publish, how many were begun in all,
-    /// and the answers of this one: for each slot a version, or none where it was free.
+    /// Whether a scan has begun since the last publish.
     pub begun: bool,
+    /// How many scans were begun in all.
     pub scans: u64,
+    /// What this scan answered of the slots so far, slot 0 first: the number of a version,
+    /// or none where the slot was free.
     pub scan: [Option<u64>; 0],
-    /// The leavers that the latest step of a scan has loaded, 0 to 8.
+    /// The leavers that the latest look at a slot has loaded, 0 to 8.
     pub gone: u64,
+    /// What this scan answered of the pins so far, in the order of the calls.
+    pub pin_scan: [PinAnswer; 0],
+    /// The word that the latest look at a pin has loaded: 0, or a root segment + 1.
+    pub pinned: u64,
     /// What the readers held and had noted that have given up their passes.
     pub settled: [Hold; 0],
     /// The versions from the opening on.
     pub history: [PlacedVersion; 0],
     /// The words of the pool as they were last written, 256 for each segment.
     pub pool: [u64; 0],
+    /// For each segment the version for which it was last filled, 0 to 2^32.
+    pub filled: [u64; 0],
     /// The atomic steps that the pass made, in their order.
     pub steps: [WordStep; 0],
 }

@@ -7,17 +7,25 @@
 #![tactic(auto)]
 
 mod law;
+mod laws;
 mod open;
 mod passes;
+mod pins;
 mod plays;
+mod pool;
 mod reader;
 mod shared;
 mod table;
-#[cfg(test)]
-mod tests;
 mod writer;
 
-pub use law::{Account, Hold, Notes, PlacedVersion, Sizes, Slot, TakenVersion, WordRead, WordStep};
+pub use law::{
+    Account, Hold, Notes, Pin, PinAnswer, PlacedVersion, Sizes, Slot, TakenVersion, WordRead,
+    WordStep,
+};
+pub use laws::{
+    a_longer_history_agrees, a_take_or_a_pin_adds_nothing_unfound,
+    a_whole_scan_finds_each_held_segment,
+};
 pub use passes::ReaderPasses;
 pub use reader::{Held, ReaderPass};
 pub use shared::{OpenFault, Shared};

@@ -1,6 +1,7 @@
 //! A register is made whole: its words, the writer's pass and the readers' passes.
 ghost use Rattle.std.specs.Prelude.{◌≡◌, ℕ, ◌+◌, ◌-◌, ◌*◌, ◌/◌, ◌%◌, ◌≤◌, ◌<◌, IfOk, IfErr, OnOk, length, [], ◌∷◌, ◌++◌, replicate};
 ghost use Rattle.std.specs.Result.{IsErrOf};
+ghost use Rattle.ft_segments.specs.Walk.{IsSound, walk};
 ghost use Rattle.ft_shared.specs.Layout.{current_word, pool_at};
 ghost use Rattle.ft_shared.specs.Account.{account_of, pool_of};
 ghost use Rattle.ft_shared.specs.Pass.{opening_writer, fresh_pass, fresh_passes};
@@ -21,7 +22,8 @@ use std::snapshot::Snapshot;
 impl Shared {
     /// A register of `segments` segments of 256 words for 1 to 8 readers and 1 to 32
     /// channels. `words` fill the segments from 0 upward, and are the version `version`
-    /// with the root segment `root`.
+    /// with the root segment `root`: the walk from it must stay among the segments so filled,
+    /// and name each once.
     ///
     /// `PoolSmall` comes exactly where `words` need more segments than there are. After a
     /// refusal nothing was made.
@@ -38,6 +40,7 @@ impl Shared {
         requires channels { (1 ≤ channels) × (channels ≤ 32) }
         requires words { (length words.now % 256 ≡ 0) × (length words.now ≤ 16776960) }
         requires root { root < length words.now / 256 }
+        requires sound { IsSound (length words.now / 256) (walk words.now root) }
         ensures small { segments < length words.now / 256
             → IsErrOf result (PoolSmall (length words.now / 256) segments) }
         ensures memory { length words.now / 256 ≤ segments
@@ -90,6 +93,9 @@ impl Shared {
         let shared = Shared {
             words: table,
             segments: sizes.segments as u16,
+            pins: (sizes.readers + 3) as u8,
+            channels: sizes.channels as u8,
+            pool: (sizes.readers + 3 + sizes.readers * sizes.channels) as u16,
         };
         let readers = sizes.readers as u8;
         let passes = shared.deal(alloc, &mut place, readers)?;
@@ -114,23 +120,24 @@ impl Shared {
         ensures passes { IfOk result (λ passes. passes.items ≡ fresh_passes self.now readers) }
     {
         let mut passes = Vec::with_capacity(alloc, readers as usize)?;
-        for _number in 0..readers {
-            let pass = self.give(place);
+        for number in 0..readers {
+            let pass = self.give(place, number);
             passes.push(pass)?;
         }
         Ok(passes)
     }
 
-    fn give(&self, place: &mut Place) -> ReaderPass
+    fn give(&self, place: &mut Place, number: u8) -> ReaderPass
         requires here { place.old.table_id ≡ self.now.table }
         requires writer { place.old.me ≡ (Writer (account_of place.old.me.0), []) }
-        requires more { (account_of place.old.me.0).given < self.now.sizes.readers }
+        requires more { number < self.now.sizes.readers }
+        requires next { (account_of place.old.me.0).given ≡ number }
         requires sizes { (account_of place.old.me.0).sizes ≡ self.now.sizes }
         ensures place { place.new.table_id ≡ place.old.table_id }
         ensures writer { place.new.me ≡ (after_give place.old.me.0, []) }
-        ensures pass { result ≡ fresh_pass self.now (account_of place.old.me.0).given }
+        ensures pass { result ≡ fresh_pass self.now number }
     {
-        ReaderPass::first(self.words.split_seat::<Give>(place))
+        ReaderPass::first(self.words.split_seat::<Give>(place), number)
     }
 }
 

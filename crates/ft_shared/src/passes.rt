@@ -1,6 +1,6 @@
 //! The readers' passes that were not handed out yet.
 ghost use Rattle.std.specs.Prelude.{◌≡◌, ℕ, ◌+◌, [], ◌∷◌, ◌++◌, MatchOption, IsSomeAnd};
-ghost use Rattle.ft_shared.specs.Pass.{Origin, fresh_passes, fresh_pass};
+ghost use Rattle.ft_shared.specs.Pass.{RegisterId, fresh_passes, fresh_pass};
 
 use crate::reader::ReaderPass;
 use std::marker::Model;
@@ -33,9 +33,9 @@ impl ReaderPasses {
         ensures given { MatchOption result
             ((self.old ≡ []) × (self.new ≡ []))
             (λ pass. self.old ≡ self.new ++ pass ∷ []) }
-        ensures fresh { (origin : Origin) (n : ℕ) → self.old ≡ fresh_passes origin (n + 1)
-            → IsSomeAnd result (λ pass. pass ≡ fresh_pass origin n)
-            × (self.new ≡ fresh_passes origin n) }
+        ensures fresh { (register : RegisterId) (n : ℕ) → self.old ≡ fresh_passes register (n + 1)
+            → IsSomeAnd result (λ pass. pass ≡ fresh_pass register n)
+            × (self.new ≡ fresh_passes register n) }
     {
         self.row.pop()
     }

@@ -1,9 +1,11 @@
 //! What each kind of step tells the seat that makes it.
-ghost use Rattle.ft_shared.specs.Plays.{IsLook, IsTake, IsLeave, IsScanBegin, IsSlotScan, IsClear, IsPublish, after_give, given_pass};
+ghost use Rattle.std.specs.Prelude.{ℕ};
+ghost use Rattle.ft_shared.specs.Plays.{IsLook, IsTake, IsLeave, IsWordRead, IsPin, IsUnpin, IsPinnedRead, IsScanBegin, IsSlotScan, IsPinScan, IsPoolRead, IsFill, IsClear, IsPublish, after_give, given_pass};
 
 use crate::law::View;
 use crate::table::{Adds, Loads, Stores, Swaps};
 use atomic_table::{Play, Split};
+use std::marker::{Brand, PhantomData};
 
 pub(crate) struct Look;
 
@@ -29,6 +31,53 @@ impl Play<(), View> for Leave {
     ghost then = { IsLeave };
 }
 
+/// A reader reads a word of a segment.
+pub(crate) struct ReadWord;
+
+impl Loads for ReadWord {}
+
+impl Play<(), View> for ReadWord {
+    ghost then = { IsWordRead };
+}
+
+/// A reader sets a pin.
+pub(crate) struct SetPin;
+
+impl Stores for SetPin {}
+
+impl Play<(), View> for SetPin {
+    ghost then = { IsPin };
+}
+
+/// A reader takes a pin away.
+pub(crate) struct Unpin;
+
+impl Stores for Unpin {}
+
+impl Play<(), View> for Unpin {
+    ghost then = { IsUnpin };
+}
+
+/// By which channel's pin a word is read. Each call picks it, in the proofs alone.
+pub(crate) trait Pinned {
+    ghost channel: { ℕ };
+}
+
+impl Pinned for Brand {
+    ghost channel = { 0 };
+}
+
+/// A reader reads a word of a segment by a pin.
+pub(crate) struct ReadPinned<C: Pinned> {
+    of: PhantomData<C>,
+}
+
+impl<C: Pinned> Loads for ReadPinned<C> {}
+
+impl<C: Pinned> Play<(), View> for ReadPinned<C> {
+    ghost then = { IsPinnedRead C.channel };
+}
+
 /// The writer's seat gives a reader its seat.
 pub(crate) struct Give;
 
@@ -52,6 +101,33 @@ impl Loads for ScanSlot {}
 
 impl Play<(), View> for ScanSlot {
     ghost then = { IsSlotScan };
+}
+
+/// The writer looks at a pin.
+pub(crate) struct ScanPin;
+
+impl Loads for ScanPin {}
+
+impl Play<(), View> for ScanPin {
+    ghost then = { IsPinScan };
+}
+
+/// The writer reads a word of a segment.
+pub(crate) struct ReadPool;
+
+impl Loads for ReadPool {}
+
+impl Play<(), View> for ReadPool {
+    ghost then = { IsPoolRead };
+}
+
+/// The writer fills a word of a segment.
+pub(crate) struct Fill;
+
+impl Stores for Fill {}
+
+impl Play<(), View> for Fill {
+    ghost then = { IsFill };
 }
 
 /// The leavers of a free slot go to 0.

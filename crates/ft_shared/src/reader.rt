@@ -1,11 +1,11 @@
 //! A reader: it looks at the current version, takes it, and leaves it.
-ghost use Rattle.std.specs.Prelude.{◌≡◌, ℕ, ◌≤◌, ◌<◌, ◌+◌, [], None, IsSomeAnd};
+ghost use Rattle.std.specs.Prelude.{◌≡◌, ℕ, ◌≤◌, ◌<◌, ◌+◌, [], None, IsSome, IsSomeAnd};
 ghost use Rattle.ft_shared.specs.Account.{hold_of};
-ghost use Rattle.ft_shared.specs.Pass.{reader_at, note_look, note_take, note_leave};
+ghost use Rattle.ft_shared.specs.Pass.{reader_at, note_look, note_take, note_word, note_leave};
 ghost use Rattle.ft_shared.specs.declared.law.View.TheVariants.{Reader};
 
 use crate::law::Place;
-use crate::plays::{Leave, Look, Take};
+use crate::plays::{Leave, Look, ReadWord, Take};
 use crate::shared::Shared;
 use ft_types::Steps;
 use std::marker::Model;
@@ -23,8 +23,9 @@ pub struct Held {
 /// One reader. At first it holds no version, has noted nothing and was never used.
 #[derive(Drop)]
 pub struct ReaderPass {
-    place: Place,
+    pub(crate) place: Place,
     slot: u8,
+    pub(crate) number: u8,
 }
 
 impl Model for ReaderPass {
@@ -40,19 +41,25 @@ impl Model for ReaderPass {
 }
 
 impl ReaderPass {
-    pub(crate) fn first(place: Place) -> ReaderPass
+    pub(crate) fn first(place: Place, number: u8) -> ReaderPass
         requires role { place.me ≡ (Reader (hold_of place.me.0), []) }
         requires new { (hold_of place.me.0).slot ≡ 0 }
+        requires number { ((hold_of place.me.0).notes.number ≡ number)
+            × (number < (hold_of place.me.0).notes.sizes.readers) }
         ensures { result ≡ reader_at place.table_id (hold_of place.me.0) }
     {
-        ReaderPass { place, slot: 0 }
+        ReaderPass {
+            place,
+            slot: 0,
+            number,
+        }
     }
 }
 
 impl Shared {
     /// The current version. One load.
     pub fn look<L: Ledger>(&self, pass: &mut ReaderPass, steps: &mut Steps<L>) -> u32
-        requires same { pass.old.origin ≡ self.now }
+        requires same { pass.old.register ≡ self.now }
         ensures noted { pass.new ≡ record pass.old { notes = note_look pass.old.notes result } }
         ensures later { pass.old.notes.seen ≤ result }
         ensures steps { steps.new ≡ steps.old + 1 }
@@ -64,7 +71,7 @@ impl Shared {
     /// The current version with its root, which the pass holds from now on. One
     /// `fetch_add`.
     pub fn take<L: Ledger>(&self, pass: &mut ReaderPass, steps: &mut Steps<L>) -> Held
-        requires same { pass.old.origin ≡ self.now }
+        requires same { pass.old.register ≡ self.now }
         requires free { pass.old.notes.held ≡ None }
         ensures noted { pass.new ≡ record pass.old {
           notes = note_take pass.old.notes
@@ -84,10 +91,30 @@ impl Shared {
         }
     }
 
+    /// The word `at` of the segment `seg`. It is noted with the version that the pass holds:
+    /// where the segment is one of that version, it is the version's word. One load.
+    pub fn word<L: Ledger>(
+        &self,
+        pass: &mut ReaderPass,
+        seg: u16,
+        at: u8,
+        steps: &mut Steps<L>,
+    ) -> u64
+        requires same { pass.old.register ≡ self.now }
+        requires held { IsSome pass.old.notes.held }
+        requires segment { seg < self.now.sizes.segments }
+        ensures noted { pass.new
+            ≡ record pass.old { notes = note_word pass.old.notes seg at result } }
+        ensures steps { steps.new ≡ steps.old + 1 }
+    {
+        let word = self.word_of(seg, at);
+        self.words.load::<ReadWord, L>(&mut pass.place, word, steps)
+    }
+
     /// Gives up the version that the pass holds. Its latest look since the take must have
     /// given a greater one. One `fetch_add`.
     pub fn leave<L: Ledger>(&self, pass: &mut ReaderPass, steps: &mut Steps<L>)
-        requires same { pass.old.origin ≡ self.now }
+        requires same { pass.old.register ≡ self.now }
         requires newer { IsSomeAnd pass.old.notes.held
             (λ taken. IsSomeAnd pass.old.notes.latest (λ version. taken.version < version)) }
         ensures noted { pass.new

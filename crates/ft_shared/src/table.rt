@@ -117,6 +117,28 @@ impl WordTable {
         self.table.shared.store::<M>(place, word, new);
     }
 
+    /// One store to the word by a reader, which is counted.
+    pub(crate) fn counted_store<M: Play<(), View> + Stores, L: Ledger>(
+        &self,
+        place: &mut Place,
+        word: usize,
+        new: u64,
+        steps: &mut Steps<L>,
+    )
+        requires { MayStep self.now.table.shared.key self.now.table.shared.table_id
+            place.old.table_id place.old.id place.old.me word (λ _. new)
+            (λ _. M.then (step self.now.table.shared.table_id.slots word new 0 none)
+            place.old.me new) }
+        ensures seat { (place.new.table_id ≡ place.old.table_id)
+            × (place.new.id ≡ place.old.id)
+            × M.then (step self.now.table.shared.table_id.slots word new 0 none)
+            place.old.me new place.new.me }
+        ensures steps { steps.new ≡ steps.old + 1 }
+    {
+        self.table.shared.store::<M>(place, word, new);
+        steps.tick();
+    }
+
     /// One swap of the word by the writer.
     pub(crate) fn swap<M: Play<(), View> + Swaps>(
         &self,

@@ -1,6 +1,8 @@
 //! The writer: it scans the slots for one that no reader holds, and publishes the next
 //! version in it.
-ghost use Rattle.std.specs.Prelude.{◌≡◌, ◌≢◌, ℕ, ◌+◌, ◌-◌, ◌<◌, ◌≤◌, ◌↔◌, [], ◌∷◌, ◌++◌, true, false, IsNone, IsSome, IfSome, length, slice_index_or, replicate};
+ghost use Rattle.std.specs.Prelude.{◌≡◌, ◌≢◌, ℕ, ◌+◌, ◌-◌, ◌<◌, ◌≤◌, ◌↔◌, [], ◌∷◌, ◌++◌, true, false, Some, IsNone, IsSome, IfSome, length, slice_index_or, replicate};
+ghost use Rattle.ft_segments.specs.Walk.{IsSound, walk};
+ghost use Rattle.ft_shared.specs.History.{placed_at, HasVersion};
 ghost use Rattle.ft_shared.specs.Account.{account_of, new_slot, slot_at, no_slot, next_slot, IsWhole, after_begin, after_scan, answer_of};
 ghost use Rattle.ft_shared.specs.Pass.{Publishes, writer_at};
 ghost use Rattle.ft_shared.specs.declared.law.View.TheVariants.{Writer};
@@ -13,7 +15,7 @@ use std::marker::Model;
 /// The writer. There is one, and it needs no lock.
 #[derive(Drop)]
 pub struct WriterPass {
-    place: Place,
+    pub(crate) place: Place,
     readers: u8,
     version: u32,
     slot: u8,
@@ -60,7 +62,7 @@ impl WriterPass {
 impl Shared {
     /// Begins a scan by one load of CURRENT.
     pub fn begin_scan(&self, pass: &mut WriterPass)
-        requires { pass.old.origin ≡ self.now }
+        requires { pass.old.register ≡ self.now }
         ensures { pass.new ≡ record pass.old { account = after_begin pass.old.account } }
     {
         self.words.scan_load::<BeginScan>(&mut pass.place, 0);
@@ -71,13 +73,16 @@ impl Shared {
     ///
     /// A slot once found free is found free by each later scan, until a publish chooses it.
     pub fn scan_slot(&self, pass: &mut WriterPass, slot: u8) -> Option<u32>
-        requires same { pass.old.origin ≡ self.now }
+        requires same { pass.old.register ≡ self.now }
         requires begun { pass.old.account.begun ≡ true }
         requires next { next_slot pass.old.account ≡ slot }
         requires slot { slot < self.now.sizes.readers + 2 }
         ensures none { IsNone result ↔ ((slot ≢ pass.old.account.slot)
             × ((slot_at pass.old.account slot).start ≡ pass.new.account.gone)) }
-        ensures some { IfSome result (λ version. version ≡ (slot_at pass.old.account slot).version) }
+        ensures some { IfSome result (λ version.
+            version ≡ (slot_at pass.old.account slot).version) }
+        ensures known { HasVersion pass.new.account.history
+            (slot_at pass.old.account slot).version }
         ensures free { (slot_at pass.old.account slot).free ≡ true → IsNone result }
         ensures noted { pass.new ≡ record pass.old {
           account = after_scan pass.old.account pass.new.account.gone;
@@ -95,16 +100,20 @@ impl Shared {
     /// Makes what was written the next version, with the root segment `root`, and gives its
     /// number. One store and one swap.
     ///
-    /// A whole scan always leaves a free slot, so there is no answer for its want.
+    /// The walk from the root must stay among the segments of the pool, and name each once. A
+    /// whole scan always leaves a free slot, so there is no answer for its want.
     pub fn publish(&self, pass: &mut WriterPass, root: u16) -> u32
-        requires same { pass.old.origin ≡ self.now }
+        requires same { pass.old.register ≡ self.now }
         requires whole { IsWhole self.now.sizes pass.old.account }
         requires room { pass.old.account.version < 4294967295 }
+        requires sound { IsSound self.now.sizes.segments (walk pass.old.account.pool root) }
         ensures next { result ≡ pass.old.account.version + 1 }
-        ensures origin { pass.new.origin ≡ pass.old.origin }
+        ensures register { pass.new.register ≡ pass.old.register }
         ensures published { Publishes self.now.sizes pass.old.account pass.new.account root }
         ensures history { pass.new.account.history ≡ pass.old.account.history
             ++ record { version = result; root = root; pool = pass.old.account.pool } ∷ [] }
+        ensures placed { placed_at pass.new.account.history result
+            ≡ Some (record { version = result; root = root; pool = pass.old.account.pool }) }
     {
         let chosen = first_free(&pass.slots, pass.readers + 2);
         let index = chosen as usize;

@@ -7,6 +7,6 @@ use Rattle.ft_shared.proofs.shared.Shared.deal.Given as goal
 abbrev pub invariant-loop-number : goal.invariant-loop-number
 invariant-loop-number l = record {
   here : l.place.table_id ≡ l.initial.place.table_id;
-  writer : l.place.me ≡ (Writer (record (account_of l.initial.place.me.0) { given = l._number }), []);
-  row : l.passes.items ≡ fresh_passes l.self l._number;
+  writer : l.place.me ≡ (Writer (record (account_of l.initial.place.me.0) { given = l.number }), []);
+  row : l.passes.items ≡ fresh_passes l.self l.number;
 }

@@ -1,8 +1,0 @@
-use Rattle.std.proofs.Common.{◌≡◌}
-use Rattle.ft_shared.proofs.tests.saw_newer.Given as goal
-
-abbrev pub invariant-loop : goal.invariant-loop
-invariant-loop g l = record {
-  same : l.pass.origin ≡ l.fn.pass.origin;
-  held : l.pass.notes.held ≡ l.fn.pass.notes.held;
-}
