@@ -1,159 +1,362 @@
-ghost use Rattle.ft_types.specs.Edits.{IsGivable};
+//! Each fault of each kind of edit, and the first of two.
 
-use crate::frames::paste;
-use crate::song::{refused, song};
-use ft_types::{Edit, EditFault, Module};
-use std::alloc::{AllocError, Global};
+use crate::lines::{Answer, answered};
+use crate::song::song;
+use ft_types::EditFault::{
+    Cut, NoChannel, NoInstrument, NoOrder, NoPattern, NoRow, NoSample, Range,
+};
+use ft_types::{EditFault, Module};
+use std::alloc::Global;
 use std::test::Fail;
 
-/// Sets a cell.
-fn cell(p: u8, r: u16, c: u8, note: u8) -> Edit
-    ensures { IsGivable result }
-{
-    Edit::Cell {
-        p,
-        r,
-        c,
-        note,
-        ins: 1,
-        vol: 0,
-        eff: 0,
-        par: 0,
-    }
-}
+/// The row behind the last one.
+const ROW_64: EditFault = NoRow { row: 64, rows: 64 };
 
-/// Empties a block of the first pattern.
-fn clear(r: u16, c: u8, h: u16, w: u8) -> Edit
-    ensures { IsGivable result }
-{
-    Edit::Clear { p: 0, r, c, h, w }
-}
+const CHANNEL_2: EditFault = NoChannel { ch: 2 };
 
-/// A value that a field can't have.
-fn range(field: u8, found: i64) -> EditFault {
-    EditFault::Range { field, found }
-}
+const NO_SAMPLE: EditFault = NoSample { i: 1, s: 1 };
 
-/// A row behind the last of the pattern.
-fn no_row() -> EditFault {
-    EditFault::NoRow { row: 64, rows: 64 }
-}
+/// Edits of patterns and of the song. Where a line has several faults, the one named is the first.
+static SONG: [(&[u8], EditFault); 38] = [
+    (b"cell 1 64 2 98 0 0 0 0", NoPattern { p: 1 }),
+    (b"cell 0 64 2 98 0 0 0 0", ROW_64),
+    (b"cell 0 63 2 98 0 0 0 0", CHANNEL_2),
+    (
+        b"cell 0 63 1 98 0 0 0 0",
+        Range {
+            field: 1,
+            found: 98,
+        },
+    ),
+    (b"rows 1 0", NoPattern { p: 1 }),
+    (b"rows 0 0", Range { field: 2, found: 0 }),
+    (
+        b"rows 0 257",
+        Range {
+            field: 2,
+            found: 257,
+        },
+    ),
+    (b"insrow 1 64", NoPattern { p: 1 }),
+    (b"insrow 0 64", ROW_64),
+    (b"delrow 1 64", NoPattern { p: 1 }),
+    (
+        b"delrow 0 65535",
+        NoRow {
+            row: 65_535,
+            rows: 64,
+        },
+    ),
+    (b"clear 1 64 2 0 0", NoPattern { p: 1 }),
+    (b"clear 0 64 2 0 1", Range { field: 3, found: 0 }),
+    (b"clear 0 64 2 1 0", Range { field: 3, found: 0 }),
+    (b"clear 0 63 1 2 2", ROW_64),
+    (b"clear 0 63 1 1 2", CHANNEL_2),
+    (
+        b"clear 0 65535 0 65535 1",
+        NoRow {
+            row: 131_069,
+            rows: 64,
+        },
+    ),
+    (b"clear 0 0 255 1 255", NoChannel { ch: 509 }),
+    (b"transpose 0 0 0 64 3 12", CHANNEL_2),
+    (b"copy 0 63 0 2 1 1 0 0", ROW_64),
+    (b"copy 0 62 0 2 1 1 0 0", NoPattern { p: 1 }),
+    (b"copy 0 62 0 2 1 0 63 2", ROW_64),
+    (b"copy 0 62 0 2 1 0 62 2", CHANNEL_2),
+    (b"order 2 0", NoOrder { pos: 2 }),
+    (b"insorder 3 0", NoOrder { pos: 3 }),
+    (b"delorder 2", NoOrder { pos: 2 }),
+    (b"restart 2", NoOrder { pos: 2 }),
+    (b"tempo 0", Range { field: 4, found: 0 }),
+    (
+        b"tempo 32",
+        Range {
+            field: 4,
+            found: 32,
+        },
+    ),
+    (
+        b"bpm 31",
+        Range {
+            field: 5,
+            found: 31,
+        },
+    ),
+    (b"newpat 0", Range { field: 2, found: 0 }),
+    (
+        b"newpat 257",
+        Range {
+            field: 2,
+            found: 257,
+        },
+    ),
+    (b"clearins 0", NoInstrument { i: 0 }),
+    (b"insname 2 41", NoInstrument { i: 2 }),
+    (
+        b"map 1 96 16",
+        Range {
+            field: 7,
+            found: 96,
+        },
+    ),
+    (
+        b"map 1 95 16",
+        Range {
+            field: 13,
+            found: 16,
+        },
+    ),
+    (b"fade 2 1", NoInstrument { i: 2 }),
+    (b"newsmp 2", NoInstrument { i: 2 }),
+];
 
-/// Frames that the sample of four doesn't have.
-fn no_frames(from: u32, to: u64) -> EditFault {
-    EditFault::Cut {
-        from,
-        to,
-        frames: 4,
-    }
-}
+/// Edits of instruments, samples and frames.
+static SAMPLES: [(&[u8], EditFault); 34] = [
+    (
+        b"env 1 2 13 12 12 12 8",
+        Range {
+            field: 18,
+            found: 2,
+        },
+    ),
+    (
+        b"env 1 1 13 12 12 12 8",
+        Range {
+            field: 6,
+            found: 13,
+        },
+    ),
+    (
+        b"env 1 1 12 12 13 14 8",
+        Range {
+            field: 7,
+            found: 12,
+        },
+    ),
+    (
+        b"env 1 1 12 11 13 14 8",
+        Range {
+            field: 7,
+            found: 13,
+        },
+    ),
+    (
+        b"env 1 1 12 11 11 14 8",
+        Range {
+            field: 7,
+            found: 14,
+        },
+    ),
+    (b"env 1 1 12 11 11 11 8", Range { field: 8, found: 8 }),
+    (
+        b"point 1 2 12 0 65",
+        Range {
+            field: 18,
+            found: 2,
+        },
+    ),
+    (
+        b"point 1 0 12 0 65",
+        Range {
+            field: 7,
+            found: 12,
+        },
+    ),
+    (
+        b"point 1 0 11 0 65",
+        Range {
+            field: 9,
+            found: 65,
+        },
+    ),
+    (
+        b"vib 1 4 0 16 64",
+        Range {
+            field: 10,
+            found: 4,
+        },
+    ),
+    (
+        b"vib 1 3 0 16 64",
+        Range {
+            field: 11,
+            found: 16,
+        },
+    ),
+    (
+        b"vib 1 3 0 15 64",
+        Range {
+            field: 12,
+            found: 64,
+        },
+    ),
+    (b"vib 2 4 0 16 64", NoInstrument { i: 2 }),
+    (b"delsmp 2", NoInstrument { i: 2 }),
+    (b"smpname 1 1 41", NO_SAMPLE),
+    (b"smp 1 1 65 0 0 0", NO_SAMPLE),
+    (
+        b"smp 1 0 65 0 0 0",
+        Range {
+            field: 9,
+            found: 65,
+        },
+    ),
+    (b"loop 1 1 3 0 0", NO_SAMPLE),
+    (
+        b"loop 1 0 3 4 1",
+        Range {
+            field: 10,
+            found: 3,
+        },
+    ),
+    (
+        b"loop 1 0 1 4 0",
+        Cut {
+            from: 4,
+            to: 4,
+            frames: 4,
+        },
+    ),
+    (
+        b"loop 1 0 2 3 2",
+        Cut {
+            from: 3,
+            to: 5,
+            frames: 4,
+        },
+    ),
+    (
+        b"loop 1 0 1 4294967295 4294967295",
+        Cut {
+            from: 4_294_967_295,
+            to: 8_589_934_590,
+            frames: 4,
+        },
+    ),
+    (b"cut 1 1 5 9", NO_SAMPLE),
+    (
+        b"cut 1 0 3 2",
+        Cut {
+            from: 3,
+            to: 2,
+            frames: 4,
+        },
+    ),
+    (
+        b"cut 1 0 0 5",
+        Cut {
+            from: 0,
+            to: 5,
+            frames: 4,
+        },
+    ),
+    (
+        b"paste 1 0 5 0080",
+        Cut {
+            from: 5,
+            to: 5,
+            frames: 4,
+        },
+    ),
+    (
+        b"paste 1 0 4 0080",
+        Range {
+            field: 16,
+            found: 128,
+        },
+    ),
+    (
+        b"paste 1 0 4 007fff7f",
+        Range {
+            field: 16,
+            found: -129,
+        },
+    ),
+    (
+        b"reverse 1 0 4 3",
+        Cut {
+            from: 4,
+            to: 3,
+            frames: 4,
+        },
+    ),
+    (
+        b"scale 1 0 0 5 1 0",
+        Cut {
+            from: 0,
+            to: 5,
+            frames: 4,
+        },
+    ),
+    (
+        b"scale 1 0 0 4 1 0",
+        Range {
+            field: 14,
+            found: 0,
+        },
+    ),
+    (
+        b"bits 1 0 9",
+        Range {
+            field: 15,
+            found: 9,
+        },
+    ),
+    (b"bits 1 1 9", NO_SAMPLE),
+    (b"bits 2 1 9", NoInstrument { i: 2 }),
+];
 
-/// A pattern, a row, a channel that isn't there, and a note that is none.
-fn refuses_cells(alloc: Global, m: &mut Module) -> bool {
-    refused(alloc, m, &cell(1, 64, 2, 98), EditFault::NoPattern { p: 1 })
-        && refused(alloc, m, &cell(0, 64, 2, 98), no_row())
-        && refused(
-            alloc,
-            m,
-            &cell(0, 63, 2, 98),
-            EditFault::NoChannel { ch: 2 },
-        )
-        && refused(alloc, m, &cell(0, 63, 1, 98), range(1, 98))
-}
+/// Edits of a song whose only instrument has no sample, and whose only order is left.
+static BARE: [(&[u8], EditFault); 7] = [
+    (
+        b"delorder 0",
+        Range {
+            field: 17,
+            found: 0,
+        },
+    ),
+    (b"map 1 96 16", NoSample { i: 1, s: 0 }),
+    (b"env 1 2 0 0 0 0 0", NoSample { i: 1, s: 0 }),
+    (b"point 1 2 0 0 0", NoSample { i: 1, s: 0 }),
+    (b"vib 1 4 0 0 0", NoSample { i: 1, s: 0 }),
+    (b"fade 1 0", NoSample { i: 1, s: 0 }),
+    (b"delsmp 1", NoSample { i: 1, s: 0 }),
+];
 
-/// A block of no size, and one that leaves the pattern or the channels.
-fn refuses_blocks(alloc: Global, m: &mut Module) -> bool {
-    let copy = Edit::Copy {
-        p: 0,
-        r: 63,
-        c: 0,
-        h: 2,
-        w: 1,
-        q: 0,
-        r2: 0,
-        c2: 0,
-    };
-    refused(alloc, m, &clear(64, 2, 0, 1), range(3, 0))
-        && refused(alloc, m, &clear(63, 1, 2, 2), no_row())
-        && refused(
-            alloc,
-            m,
-            &clear(63, 1, 1, 2),
-            EditFault::NoChannel { ch: 2 },
-        )
-        && refused(alloc, m, &copy, no_row())
-}
-
-/// An order that isn't there, a row of no ticks, too many points, no instrument, no sample.
-fn refuses_numbers(alloc: Global, m: &mut Module) -> bool {
-    let env = Edit::Env {
-        i: 1,
-        w: 0,
-        count: 13,
-        sus: 12,
-        ls: 0,
-        le: 0,
-        flags: 0,
-    };
-    refused(
-        alloc,
-        m,
-        &Edit::Restart { pos: 2 },
-        EditFault::NoOrder { pos: 2 },
-    ) && refused(alloc, m, &Edit::Tempo { n: 0 }, range(4, 0))
-        && refused(alloc, m, &env, range(6, 13))
-        && refused(
-            alloc,
-            m,
-            &Edit::Clearins { i: 0 },
-            EditFault::NoInstrument { i: 0 },
-        )
-        && refused(
-            alloc,
-            m,
-            &Edit::Bits { i: 1, s: 1, b: 9 },
-            EditFault::NoSample { i: 1, s: 1 },
-        )
-}
-
-/// Frames that aren't there, and a divisor of 0.
-fn refuses_frames(alloc: Global, m: &mut Module) -> bool {
-    let cut = Edit::Cut {
-        i: 1,
-        s: 0,
-        from: 3,
-        to: 2,
-    };
-    let scale = Edit::Scale {
-        i: 1,
-        s: 0,
-        from: 0,
-        to: 4,
-        n: 1,
-        d: 0,
-    };
-    refused(alloc, m, &cut, no_frames(3, 2)) && refused(alloc, m, &scale, range(14, 0))
-}
-
-/// A frame that a sample of 8 bits can't have, and a place behind the last frame.
-fn refuses_pastes(alloc: Global, m: &mut Module) -> Result<bool, AllocError> {
-    let wide = paste(alloc, 4, 128)?;
-    let late = paste(alloc, 5, 128)?;
-    Ok(refused(alloc, m, &wide, range(16, 128)) && refused(alloc, m, &late, no_frames(5, 5)))
+/// Whether the edit of a line is refused so.
+fn is_refused(alloc: Global, song: &mut Module, row: &(&[u8], EditFault)) -> bool {
+    answered(alloc, song, row.0) == Answer::Refused(row.1)
 }
 
 #[test]
-fn the_first_fault_is_told(rt: HostRuntime) -> Result<(), Fail> {
-    assert!(rt; refuses_cells(rt.alloc(), &mut song(rt.alloc())?));
-    assert!(rt; refuses_blocks(rt.alloc(), &mut song(rt.alloc())?));
+fn edits_of_patterns_and_songs_are_refused_by_their_first_fault(
+    rt: HostRuntime,
+) -> Result<(), Fail> {
+    let mut song = song(rt.alloc())?;
+    for row in SONG.iter() {
+        assert!(rt; is_refused(rt.alloc(), &mut song, row), "{:?}", row.0);
+    }
     Ok(())
 }
 
 #[test]
-fn numbers_out_of_range_are_told(rt: HostRuntime) -> Result<(), Fail> {
-    let mut m = song(rt.alloc())?;
-    assert!(rt; refuses_numbers(rt.alloc(), &mut m));
-    assert!(rt; refuses_frames(rt.alloc(), &mut m));
-    assert!(rt; refuses_pastes(rt.alloc(), &mut m)?);
+fn edits_of_samples_are_refused_by_their_first_fault(rt: HostRuntime) -> Result<(), Fail> {
+    let mut song = song(rt.alloc())?;
+    for row in SAMPLES.iter() {
+        assert!(rt; is_refused(rt.alloc(), &mut song, row), "{:?}", row.0);
+    }
+    Ok(())
+}
+
+#[test]
+fn what_is_missing_is_told(rt: HostRuntime) -> Result<(), Fail> {
+    let mut song = song(rt.alloc())?;
+    assert!(rt; answered(rt.alloc(), &mut song, b"delsmp 1") == Answer::Done);
+    assert!(rt; answered(rt.alloc(), &mut song, b"delorder 1") == Answer::Done);
+    for row in BARE.iter() {
+        assert!(rt; is_refused(rt.alloc(), &mut song, row), "{:?}", row.0);
+    }
     Ok(())
 }

@@ -1,10 +1,17 @@
-//! Edits of a small song: each fault once, the first of two, and what edits make of it.
+//! Edits of a small song: each fault, the first of two, the limits of a song, and what each kind of
+//! edit makes of it.
 #![tactic(auto)]
 
 #[cfg(test)]
 mod faults;
 #[cfg(test)]
 mod frames;
+#[cfg(test)]
+mod kinds;
+#[cfg(test)]
+mod limits;
+#[cfg(test)]
+mod lines;
 #[cfg(test)]
 mod orders;
 #[cfg(test)]
