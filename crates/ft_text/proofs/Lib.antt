@@ -24,3 +24,4 @@ pub mod BatchesBack
 pub mod WordsExact
 pub mod LinesExact
 pub mod WholeExact
+pub mod Settled

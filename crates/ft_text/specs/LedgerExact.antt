@@ -1,8 +1,9 @@
--- What is read as a ledger is one.
-use Rattle.std.specs.Prelude.{◌≡◌, ℕ, ◌≤◌, List, Ok}
-use Rattle.ft_text.specs.Record.{Account}
-use Rattle.ft_text.specs.Ledger.{ledger_text}
+-- What is read as a ledger is one, and what isn't is none.
+use Rattle.std.specs.Prelude.{◌≡◌, ◌≢◌, ℕ, ◌<◌, ◌≤◌, List, ◌++◌, length, All, Ok, Err}
+use Rattle.ft_text.specs.Record.{Account, IsTellable}
+use Rattle.ft_text.specs.Ledger.{joined, ledger_text}
 use Rattle.ft_text.specs.LedgerReading.{ledger_of}
+use Rattle.ft_text.specs.LedgerBack.{HasRanges, IsOld}
 
 -- the ledger of an account, of form 1 or 2
 abbrev pub IsLedgerOf : List ℕ → Account → Type 0
@@ -12,3 +13,27 @@ IsLedgerOf bytes account = (form : ℕ) × (1 ≤ form) × (form ≤ 2) × (byte
 abbrev pub ReadIsWritten : Type 0
 ReadIsWritten = (bytes : List ℕ) (account : Account) → ledger_of bytes ≡ Ok account
     → IsLedgerOf bytes account
+
+-- lines without their LFs
+abbrev pub AreLines : List (List ℕ) → Type 0
+AreLines lines = All (λ line. All (λ b. b ≢ 10) line) lines
+
+-- where the last of so many lines can't stand there, nothing that follows changes it
+abbrev pub WrongLineSettles : Type 0
+WrongLineSettles = (lines : List (List ℕ)) (rest other : List ℕ) → AreLines lines
+    → length lines < 4294967295 → ledger_of (joined lines ++ rest) ≡ Err (length lines)
+    → ledger_of (joined lines ++ other) ≡ Err (length lines)
+
+-- so no ledger begins with these lines
+abbrev pub NoneGoesOn : Type 0
+NoneGoesOn = (lines : List (List ℕ)) (rest : List ℕ) → AreLines lines
+    → length lines < 4294967295 → ledger_of (joined lines ++ rest) ≡ Err (length lines)
+    → (account : Account) (other : List ℕ) → IsTellable account → HasRanges account
+    → (ledger_text 2 account ≢ joined lines ++ other)
+    × (IsOld account → ledger_text 1 account ≢ joined lines ++ other)
+
+-- and bytes with a wrong line are no ledger
+abbrev pub RefusedIsNone : Type 0
+RefusedIsNone = (bytes : List ℕ) (line : ℕ) → ledger_of bytes ≡ Err line
+    → (account : Account) → IsTellable account → HasRanges account
+    → (ledger_text 2 account ≢ bytes) × (IsOld account → ledger_text 1 account ≢ bytes)

@@ -1,7 +1,7 @@
 //! Laws of the definitions of ledgers. These functions do nothing; their contracts say what holds.
 
 ghost use Rattle.ft_text.specs.LedgerBack.{LedgersAreReadBack, OldLedgersAreReadBack, LedgersDiffer};
-ghost use Rattle.ft_text.specs.LedgerExact.{ReadIsWritten};
+ghost use Rattle.ft_text.specs.LedgerExact.{ReadIsWritten, WrongLineSettles, NoneGoesOn, RefusedIsNone};
 
 /// The ledger of what can be told tells it, in form 2 and, where it can, in form 1. So different
 /// accounts have different ledgers.
@@ -14,4 +14,12 @@ pub fn ledgers_are_read_back()
 /// What is read as a ledger is the ledger of what was read, of form 1 or 2.
 pub fn what_is_read_is_written()
     ensures { ReadIsWritten }
+{}
+
+/// What is refused as a ledger is none, and no ledger begins with the lines up to the wrong one,
+/// whatever follows them.
+pub fn what_is_refused_is_none()
+    ensures settled { WrongLineSettles }
+    ensures front { NoneGoesOn }
+    ensures none { RefusedIsNone }
 {}

@@ -6,8 +6,8 @@
 //! `read_batch` answer exactly that, unless memory is wanting.
 //!
 //! What a ledger tells is an `Account` of `specs/Record`, and its text is in `specs/Ledger`.
-//! `print_ledger` writes it. `read_ledger` answers what `specs/LedgerReading` says, or the first line
-//! that can't stand there.
+//! `print_ledger` writes it. `read_ledger` answers what `specs/LedgerReading` says, or the first
+//! line that can't stand there.
 #![tactic(auto)]
 
 mod arguments;
@@ -39,7 +39,7 @@ mod words;
 pub use fault::LineFault;
 pub use laws::{printed_batches_are_read, printed_edits_are_read, texts_differ};
 pub use ledger::print_ledger;
-pub use ledger_laws::{ledgers_are_read_back, what_is_read_is_written};
+pub use ledger_laws::{ledgers_are_read_back, what_is_read_is_written, what_is_refused_is_none};
 pub use ledger_read::read_ledger;
 pub use print::{print_batch, print_edit};
 pub use read::{read_batch, read_edit};

@@ -1,0 +1,28 @@
+-- the ledger of an account would be read
+use Rattle.std.proofs.Common.{◌≡◌, ◌≢◌, ℕ, List, Ok, Err, Result, sym, ap, ◌∙◌}
+use Rattle.ft_text.specs.Record.{Account}
+use Rattle.ft_text.specs.LedgerReading.{ledger_of}
+use Rattle.ft_text.proofs.LedgerWhole.{whole_back, in_form_2, in_form_1}
+use Rattle.ft_text.proofs.Settled.{wrong_line_settles}
+use Rattle.ft_text.proofs.ledger_laws.what_is_refused_is_none.Goals as goal
+
+not_read : (text bytes : List ℕ) (line : ℕ) (a : Account) → ledger_of bytes ≡ Err line → ledger_of text ≡ Ok a → text ≢ bytes
+not_read text bytes line a wrong read same =
+    let both : ◌≡◌ {A = Result Account ℕ} (Ok a) (Err line) = sym read ∙ ap ledger_of same ∙ wrong in
+    absurd (cc)
+
+pub returns-clause-settled : goal.returns-clause-settled
+returns-clause-settled c = wrong_line_settles
+
+pub returns-clause-front : goal.returns-clause-front
+returns-clause-front c lines rest are small wrong a other tellable ranges =
+    let there = wrong_line_settles lines rest other are small wrong in (
+      not_read _ _ _ a there (whole_back 2 a (in_form_2 a tellable ranges) tellable ranges),
+      λ old. not_read _ _ _ a there (whole_back 1 a (in_form_1 a old tellable ranges) tellable ranges),
+    )
+
+pub returns-clause-none : goal.returns-clause-none
+returns-clause-none c bytes line wrong a tellable ranges = (
+  not_read _ bytes line a wrong (whole_back 2 a (in_form_2 a tellable ranges) tellable ranges),
+  λ old. not_read _ bytes line a wrong (whole_back 1 a (in_form_1 a old tellable ranges) tellable ranges),
+)
