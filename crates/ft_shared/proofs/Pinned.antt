@@ -1,5 +1,5 @@
 -- The steps on pins keep the rule.
-use Rattle.std.proofs.Common.{zero, suc, Bool, true, false, cond, ltb, le-ltb, eqb, eq-eqb, ne_eqb, ◌≡◌, ◌≢◌, ℕ, ◌+◌, ◌-◌, ◌*◌, ◌<◌, ◌≤◌, List, [], ◌∷◌, ◌++◌, length, lt_of_not-le, get_or, set, sym, refl, ap, ◌∙◌, subst, inl, inr, ⊎_elim, arith, Option, Some, None, All, IsSome, IsSomeAnd, IfSome, slice_index_or, length-set, get_or-set_other, get_or-set_same}
+use Rattle.std.proofs.Common.{nat_lt, ◌==◌, zero, suc, Bool, true, false, cond, le-ltb, eqb, eq-eqb, ne_eqb, ◌≡◌, ◌≢◌, ℕ, ◌+◌, ◌-◌, ◌*◌, ◌<◌, ◌≤◌, List, [], ◌∷◌, ◌++◌, length, lt_of_not-le, get_or, set, sym, refl, ap, ◌∙◌, subst, inl, inr, ⊎_elim, arith, Option, Some, None, All, IsSome, IsSomeAnd, IfSome, slice_index_or, length-set, get_or-set_other, get_or-set_same}
 use Rattle.std.proofs.lemmas.List.Elements.{All-append, Contains-get_or, Contains-append_left, Contains-push, Contains-push_cases}
 use Rattle.std.specs.List.{Contains}
 use mathlib.Core.Option.{none, some}
@@ -77,7 +77,7 @@ module _ (key : Opening) where
   own-number hold = ap bit (eq-eqb hold.notes.number hold.notes.number refl)
 
   number-most : (state : TableState) (rule : RegisterRule key state) (r : ℕ) → total (pass_sum (has_number r)) state.views ≤ 1
-  number-most state rule r = let e = rule.numbers r in let l = bit-le (ltb r rule.account.given) in omega arith
+  number-most state rule r = let e = rule.numbers r in let l = bit-le (nat_lt r rule.account.given) in omega arith
 
   -- the number of a pass is below the readers
   pub number-small : (state : TableState) (rule : RegisterRule key state) (seat : ℕ) (view : View) (hold : Hold)
@@ -90,7 +90,7 @@ module _ (key : Opening) where
       let e = rule.numbers n in
       let few = rule.count.1 in
       dite (dec_le rule.account.given n)
-      (λ (le : rule.account.given ≤ n). let z : bit (ltb n rule.account.given) ≡ 0 = ap bit (le-ltb n rule.account.given le) in
+      (λ (le : rule.account.given ≤ n). let z : bit (nat_lt n rule.account.given) ≡ 0 = ap bit (le-ltb n rule.account.given le) in
       absurd (omega arith))
       (λ (gt : rule.account.given ≤ n → ⊥). let lt : n < rule.account.given = lt_of_not-le gt in omega arith)
 
@@ -105,7 +105,7 @@ module _ (key : Opening) where
   pin-only state rule seat view hold at behind c =
       let n : ℕ = hold.notes.number in
       let own = own-number hold in
-      only_behind (pin_amount n c) (has_number n) (λ h z. off (eqb h.notes.number n)
+      only_behind (pin_amount n c) (has_number n) (λ h z. off (h.notes.number == n)
       (pin_word (pin_of h.notes c)) z) state.views seat view hold at behind (number-most state rule n) (omega arith)
       ∙ ap (λ (b : Bool). cond b (pin_word (pin_of hold.notes c)) 0) (eq-eqb n n refl)
 
@@ -120,11 +120,11 @@ module _ (key : Opening) where
   view-small : (state : TableState) (rule : RegisterRule key state) (r c seat : ℕ) (view : View) → get_elem? state.views seat ≡ some view
       → pass_sum (pin_amount r c) view ≤ 65536 * pass_sum (has_number r) view
   view-small state rule r c seat Spent at = omega arith
-  view-small state rule r c seat (Reader h) at = weighed (eqb h.notes.number r) (pin_word (pin_of h.notes c))
+  view-small state rule r c seat (Reader h) at = weighed (h.notes.number == r) (pin_word (pin_of h.notes c))
       (word-small rule.account h (rule.segments.kept seat (Reader h) h at refl) c (pin_of h.notes c) refl)
   view-small state rule r c seat (Writer e) at = at_most_index (pin_amount r c) (has_number r) e.settled (λ i d l.
       let h : Hold = get_or e.settled i d in
-      weighed (eqb h.notes.number r) (pin_word (pin_of h.notes c))
+      weighed (h.notes.number == r) (pin_word (pin_of h.notes c))
       (word-small rule.account h (rule.segments.kept seat (Writer e) h at (Contains-get_or e.settled i d l)) c (pin_of h.notes c) refl))
 
   -- a pin word is 0, or a root segment + 1
@@ -210,7 +210,7 @@ module _ (key : Opening) where
       (key.sizes.readers + 3 + (p + c)) 0 = get_or-set_other state.words i (key.sizes.readers + 3 + (p + c)) x 0
       (λ t. nc (omega arith)) in
       let m = moved n c in
-      let f : pin_amount n c h' ≡ pin_amount n c h = ap (λ (q : Option Pin). cond (eqb n n) (pin_word q) 0) (else c nc) in
+      let f : pin_amount n c h' ≡ pin_amount n c h = ap (λ (q : Option Pin). cond (n == n) (pin_word q) 0) (else c nc) in
       let old : get_or state.words (key.sizes.readers + 3 + (p + c)) 0 ≡ total
       (pass_sum (pin_amount n c)) state.views = rule.pins n c small lc in
       w ∙ (old ∙ omega arith))))

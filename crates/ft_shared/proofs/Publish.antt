@@ -1,5 +1,5 @@
 -- The two steps of a publish keep the rule, and a whole scan leaves a free slot.
-use Rattle.std.proofs.Common.{zero, suc, Bool, true, false, ltb, eqb, eq-eqb, ne_eqb, ◌≡◌, ◌≢◌, ◌⊎◌, inl, inr, ℕ, ◌+◌, ◌*◌, ◌<◌, ◌≤◌, List, [], ◌∷◌, ◌++◌, length, get_or, set, sym, refl, ap, ◌∙◌, subst, ⊎_elim, arith, cond, Option, Some, None, IsNone, IsSomeAnd, slice_index_or, length-set, length-append, get_or-set_other, get_or-set_same}
+use Rattle.std.proofs.Common.{nat_lt, ◌==◌, zero, suc, Bool, true, false, eq-eqb, ne_eqb, ◌≡◌, ◌≢◌, ◌⊎◌, inl, inr, ℕ, ◌+◌, ◌*◌, ◌<◌, ◌≤◌, List, [], ◌∷◌, ◌++◌, length, get_or, set, sym, refl, ap, ◌∙◌, subst, ⊎_elim, arith, cond, Option, Some, None, IsNone, IsSomeAnd, slice_index_or, length-set, length-append, get_or-set_other, get_or-set_same}
 use mathlib.Core.Option.{none, some, some-injective, some-ne-none}
 use mathlib.Core.Logic.{dite}
 use native.Mathlib.Decide.{ℕ_discrete}
@@ -90,9 +90,9 @@ module _ (key : Opening) where
         unused = λ j e. let v = rule.unused j (sym (frees j) ∙ e) in (v.0, same j ∙ v.1);
         scanned = λ t. let x = rule.scanned t in
             let y = sum_below-le (scan_count b views) (scan_count a state.views) (key.sizes.readers + 2) (λ j l.
-            subst (λ (f : Bool). amount (eqb j a.slot) f (ltb j (length a.scan)) (holders j views) ≤ scan_count a state.views j)
+            subst (λ (f : Bool). amount (j == a.slot) f (nat_lt j (length a.scan)) (holders j views) ≤ scan_count a state.views j)
             (sym (frees j))
-            (amount-le (eqb j a.slot) (slot_at a j).free (ltb j (length a.scan)) (holders j views) (holders j state.views)
+            (amount-le (j == a.slot) (slot_at a j).free (nat_lt j (length a.scan)) (holders j views) (holders j state.views)
             (λ e. let h = same j in omega arith))) in omega arith;
         count = (sum_still key state id a b at refl one ∙ rule.count.0, rule.count.1);
         numbers = λ n. sum_still key state id a b at refl (has_number n) ∙ rule.numbers n;

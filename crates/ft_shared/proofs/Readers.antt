@@ -1,5 +1,5 @@
 -- A reader's steps keep the rule.
-use Rattle.std.proofs.Common.{true, ltb, false-eqb, ◌≡◌, ◌≢◌, ℕ, ◌+◌, ◌*◌, ◌%◌, ◌^◌, ◌<◌, ◌≤◌, eqb, List, [], ◌∷◌, length, get_or, set, sym, refl, ap, ◌∙◌, subst, ⊎_elim, arith, Option, Some, None, All, IsSomeAnd, slice_index_or, cond, length-set, get_or-set_other, get_or-set_same, eq-eqb, ne_eqb}
+use Rattle.std.proofs.Common.{nat_lt, ◌==◌, true, false-eqb, ◌≡◌, ◌≢◌, ℕ, ◌+◌, ◌*◌, ◌%◌, ◌^◌, ◌<◌, ◌≤◌, eqb, List, [], ◌∷◌, length, get_or, set, sym, refl, ap, ◌∙◌, subst, ⊎_elim, arith, Option, Some, None, All, IsSomeAnd, slice_index_or, cond, length-set, get_or-set_other, get_or-set_same, eq-eqb, ne_eqb}
 use Rattle.std.proofs.lemmas.List.Elements.{All-append, All-contains}
 use Rattle.std.specs.List.{Contains}
 use mathlib.Core.Option.{none, some}
@@ -101,7 +101,7 @@ module _ (key : Opening) where
       → rule.account.begun ≡ true → sum_below (scan_count rule.account views) (key.sizes.readers + 2) ≤ key.sizes.readers
   fewer state rule views less b = let a = rule.scanned b in let d : Account = rule.account in
       let c = sum_below-le (scan_count d views) (scan_count d state.views) (key.sizes.readers + 2)
-      (λ k l. amount-le (eqb k d.slot) (slot_at d k).free (ltb k (length d.scan)) (holders k views) (holders k state.views)
+      (λ k l. amount-le (k == d.slot) (slot_at d k).free (nat_lt k (length d.scan)) (holders k views) (holders k state.views)
       (λ e. less k (false-eqb k d.slot (sym e)))) in omega arith
 
   -- the pin words, where neither they nor the reader's pins change
@@ -149,7 +149,7 @@ module _ (key : Opening) where
     scanned = λ b. fewer state rule (set state.views id (Reader h')) less b;
     count = (let e = total-set (pass_sum one) state.views id (Reader h) (Reader h') at in let b = rule.count in omega arith, rule.count.1);
     numbers = λ n. let e = total-set (pass_sum (has_number n)) state.views id (Reader h) (Reader h') at in
-        let m : has_number n h' ≡ has_number n h = ap (λ (k : ℕ). bit (eqb k n)) number in let b = rule.numbers n in omega arith;
+        let m : has_number n h' ≡ has_number n h = ap (λ (k : ℕ). bit (k == n)) number in let b = rule.numbers n in omega arith;
     pins = pins;
     stored = (rule.stored.0, λ i. beyond i ∙ rule.stored.1 i);
     segments = segments_reader key.sizes state.views rule.account id h' kept met rule.segments;
@@ -335,7 +335,7 @@ module _ (key : Opening) where
       let bears = rule.bears in
       let apart : h.slot ≢ a.slot = λ same. let e : t.version ≡ a.version = sym borne.1
       ∙ (ap (λ (k : ℕ). (slot_at a k).version) same ∙ bears) in omega arith in
-      let before : (k : ℕ) → grip_of k h ≡ bit (eqb h.slot k) = λ k. ap (λ (o : Option TakenVersion). grip k o h.slot) has in
+      let before : (k : ℕ) → grip_of k h ≡ bit (h.slot == k) = λ k. ap (λ (o : Option TakenVersion). grip k o h.slot) has in
       let here : holders h.slot views + 1 ≡ holders h.slot state.views =
       let e = total-set (pass_sum (grip_of h.slot)) state.views id (Reader h) (Reader h') at' in
       let b = before h.slot ∙ ap bit (eq-eqb h.slot h.slot refl) in omega arith in

@@ -4,7 +4,7 @@ use mathlib.Core.Option.{some}
 use mathlib.Core.Logic.{dite}
 use native.Mathlib.Decide.{ℕ_discrete}
 use lib.ListN.{get_elem?}
-use Rattle.std.specs.List.{Contains}
+use Rattle.std.specs.List.{slice_get, Contains}
 use Rattle.atomic_table.proofs.Lists.{at_set, at_snoc}
 use Rattle.ft_segments.specs.Packing.{word_at}
 use Rattle.ft_segments.specs.Walk.{IsOf}
@@ -84,6 +84,25 @@ placed_new [] p ne = ap (λ (b : Bool). cond b (Some p) None) (eq-eqb p.version 
 placed_new (x ∷ xs) p ne =
     ap (λ (b : Bool). cond b (Some x) (placed_at (xs ++ p ∷ []) p.version)) (ne_eqb x.version p.version (ne 0 x refl))
     ∙ placed_new xs p (λ n y e. ne (suc n) y e)
+
+-- where the versions stand in order, each is found by its number
+pub placed_in_order : (h : List PlacedVersion) (first : ℕ) → ((n : ℕ) (p : PlacedVersion) → get_elem? h n ≡ some p → p.version ≡ first + n)
+    → (n : ℕ) (p : PlacedVersion) → slice_get h n ≡ Some p → placed_at h (first + n) ≡ Some p
+placed_in_order [] first order n p at = absurd (no at)
+  where
+    no : None ≡ Some p → ⊥
+    no e = cc
+placed_in_order (x ∷ xs) first order zero p at =
+    let v : x.version ≡ first + 0 = order 0 x refl in
+    ap (λ (b : Bool). cond b (Some x) (placed_at xs (first + 0))) (eq-eqb x.version (first + 0) v) ∙ at
+placed_in_order (x ∷ xs) first order (suc n) p at =
+    let v : x.version ≡ first + 0 = order 0 x refl in
+    let apart : x.version ≢ first + suc n = λ e. omega arith in
+    let m : first + 1 + n ≡ first + suc n = omega arith in
+    let rest : placed_at xs (first + 1 + n) ≡ Some p =
+    placed_in_order xs (first + 1) (λ k y e. let o = order (suc k) y e in omega arith) n p at in
+    ap (λ (b : Bool). cond b (Some x) (placed_at xs (first + suc n))) (ne_eqb x.version (first + suc n) apart)
+    ∙ (ap (placed_at xs) (sym m) ∙ rest)
 
 -- ---- where the writer's account changes
 

@@ -1,5 +1,5 @@
 -- Sums over the views and over the slots, and the numbers in the word CURRENT.
-use Rattle.std.proofs.Common.{◌≡◌, ◌≢◌, ℕ, zero, suc, ◌+◌, ◌<◌, ◌≤◌, ◌==◌, Bool, true, false, List, [], ◌∷◌, ◌++◌, length, get_or, set, ◌∙◌, ◌*◌, mul-le-mul_right, suc-mul, lt_of_not-le, sym, refl, ap, arith, Option, Some, None, All, eq-eqb, ne_eqb, ltb, lt-ltb, le-ltb}
+use Rattle.std.proofs.Common.{nat_lt, ◌≡◌, ◌≢◌, ℕ, zero, suc, ◌+◌, ◌<◌, ◌≤◌, ◌==◌, Bool, true, false, List, [], ◌∷◌, ◌++◌, length, get_or, set, ◌∙◌, ◌*◌, mul-le-mul_right, suc-mul, lt_of_not-le, sym, refl, ap, arith, Option, Some, None, All, eq-eqb, ne_eqb, lt-ltb, le-ltb}
 use Rattle.std.proofs.lemmas.Bool.Decides.{nat_tests}
 use mathlib.Core.Option.{some, some-injective, some-ne-none}
 use mathlib.Core.Logic.{dite}
@@ -141,20 +141,20 @@ pub count-of : (v k r n : ℕ) → n < 256 → count_in (current_word v k r n) �
 count-of v k r n c = omega arith
 
 -- one more pass is made, with the next number
-pub numbers-more : (n g : ℕ) → bit (g == n) + bit (ltb n g) ≡ bit (ltb n (g + 1))
+pub numbers-more : (n g : ℕ) → bit (g == n) + bit (nat_lt n g) ≡ bit (nat_lt n (g + 1))
 numbers-more n g = dite (ℕ_discrete g n)
     (λ (h : g ≡ n).
     let e : bit (g == n) ≡ 1 = ap bit (eq-eqb g n h) in
-    let l : bit (ltb n g) ≡ 0 = ap bit (le-ltb n g (omega arith)) in
-    let m : bit (ltb n (g + 1)) ≡ 1 = ap bit (lt-ltb n (g + 1) (omega arith)) in omega arith)
+    let l : bit (nat_lt n g) ≡ 0 = ap bit (le-ltb n g (omega arith)) in
+    let m : bit (nat_lt n (g + 1)) ≡ 1 = ap bit (lt-ltb n (g + 1) (omega arith)) in omega arith)
     (λ (h : g ≢ n).
     let e : bit (g == n) ≡ 0 = ap bit (ne_eqb g n h) in
-    let l : bit (ltb n g) ≡ bit (ltb n (g + 1)) = ap bit (next-other g n h) in omega arith)
+    let l : bit (nat_lt n g) ≡ bit (nat_lt n (g + 1)) = ap bit (next-other g n h) in omega arith)
   where
-    next-other : (g n : ℕ) → g ≢ n → ltb n g ≡ ltb n (g + 1)
+    next-other : (g n : ℕ) → g ≢ n → nat_lt n g ≡ nat_lt n (g + 1)
     next-other g n h = grind (arith, nat_tests)
 
-pub bit-zero : (n : ℕ) → bit (ltb n 0) ≡ 0
+pub bit-zero : (n : ℕ) → bit (nat_lt n 0) ≡ 0
 bit-zero n = ap bit (le-ltb n 0 (omega arith))
 
 pub amount-le : (here free met : Bool) (m n : ℕ) → (here ≡ false → m ≤ n) → amount here free met m ≤ amount here free met n
@@ -185,7 +185,7 @@ amount-met true free m n = omega arith
 amount-met false true m n = omega arith
 amount-met false false m n = omega arith
 
-pub ltb-next : (k n : ℕ) → k ≢ n → ltb k (n + 1) ≡ ltb k n
+pub ltb-next : (k n : ℕ) → k ≢ n → nat_lt k (n + 1) ≡ nat_lt k n
 ltb-next k n ne = grind (arith, nat_tests)
 
 pub sum_below-le : (f g : ℕ → ℕ) (n : ℕ) → ((k : ℕ) → k < n → f k ≤ g k) → sum_below f n ≤ sum_below g n
@@ -209,7 +209,7 @@ sum_below-total f g n h [] = let z = sum_below-zero (λ k. total (f k) []) n (λ
 sum_below-total f g n h (x ∷ xs) = let a = sum_below-add (λ k. f k x) (λ k. total (f k) xs) n in let b = h x in
     let c = sum_below-total f g n h xs in omega arith
 
-one-slot : (slot n : ℕ) → sum_below (λ k. bit (slot == k)) n ≤ bit (ltb slot n)
+one-slot : (slot n : ℕ) → sum_below (λ k. bit (slot == k)) n ≤ bit (nat_lt slot n)
 unfolding sum_below
 one-slot slot zero = omega arith
 one-slot slot (suc n) = let a = one-slot slot n in dite (ℕ_discrete slot n)
@@ -217,15 +217,15 @@ one-slot slot (suc n) = let a = one-slot slot n in dite (ℕ_discrete slot n)
     let lt : slot < suc n = omega arith in
     let le : n ≤ slot = omega arith in
     let e : bit (slot == n) ≡ 1 = ap bit (eq-eqb slot n h) in
-    let l : bit (ltb slot (suc n)) ≡ 1 = ap bit (lt-ltb slot (suc n) lt) in
-    let m : bit (ltb slot n) ≡ 0 = ap bit (le-ltb slot n le) in omega arith)
+    let l : bit (nat_lt slot (suc n)) ≡ 1 = ap bit (lt-ltb slot (suc n) lt) in
+    let m : bit (nat_lt slot n) ≡ 0 = ap bit (le-ltb slot n le) in omega arith)
     (λ (h : slot ≢ n).
     let e : bit (slot == n) ≡ 0 = ap bit (ne_eqb slot n h) in
-    let l : bit (ltb slot n) ≤ bit (ltb slot (suc n)) = grind (arith, nat_tests) in omega arith)
+    let l : bit (nat_lt slot n) ≤ bit (nat_lt slot (suc n)) = grind (arith, nat_tests) in omega arith)
 
 grip-sum_below : (n slot : ℕ) (o : Option TakenVersion) → sum_below (λ k. grip k o slot) n ≤ 1
 grip-sum_below n slot None = let z = sum_below-zero (λ k. 0) n (λ k l. refl) in omega arith
-grip-sum_below n slot (Some t) = let a = one-slot slot n in let b = bit-le (ltb slot n) in omega arith
+grip-sum_below n slot (Some t) = let a = one-slot slot n in let b = bit-le (nat_lt slot n) in omega arith
 
 passes-sum_below : (n : ℕ) (v : View) → sum_below (λ k. pass_sum (grip_of k) v) n ≤ pass_sum one v
 passes-sum_below n Spent = let z = sum_below-zero (λ k. 0) n (λ k l. refl) in omega arith

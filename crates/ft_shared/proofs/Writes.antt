@@ -1,5 +1,5 @@
 -- The writer's steps keep the rule.
-use Rattle.std.proofs.Common.{replicate, Option, inl, ◌⊎◌, zero, suc, Bool, true, false, cond, ltb, eqb, false-eqb, true-eqb, lt-ltb, le-ltb, eq-eqb, ◌==◌, ◌≡◌, ◌≢◌, ℕ, ◌+◌, ◌<◌, ◌≤◌, List, [], ◌∷◌, ◌++◌, length, get_or, set, sym, refl, ap, ◌∙◌, subst, ⊎_elim, arith, Some, None, All, slice_index_or, length-set, length-append, get_or-set_other, get_or-set_same}
+use Rattle.std.proofs.Common.{nat_lt, replicate, Option, inl, ◌⊎◌, zero, suc, Bool, true, false, cond, false-eqb, true-eqb, lt-ltb, le-ltb, eq-eqb, ◌==◌, ◌≡◌, ◌≢◌, ℕ, ◌+◌, ◌<◌, ◌≤◌, List, [], ◌∷◌, ◌++◌, length, get_or, set, sym, refl, ap, ◌∙◌, subst, ⊎_elim, arith, Some, None, All, slice_index_or, length-set, length-append, get_or-set_other, get_or-set_same}
 use Rattle.std.proofs.lemmas.List.{get_or_append_left, get_or_push}
 use mathlib.Core.Option.{none, some}
 use mathlib.Core.Logic.{dite}
@@ -129,7 +129,7 @@ module _ (key : Opening) where
         count = (let x = more one in let c = rule.count in omega arith, omega arith);
         numbers = λ n. let x = more (has_number n) in let y = rule.numbers n in let z = numbers-more n a.given in omega arith;
         pins = λ r c lr lc. let x = more (pin_amount r c) in let y = rule.pins r c lr lc in
-            let z : pin_amount r c h ≡ 0 = no-pins (eqb a.given r) a.sizes.channels c in omega arith;
+            let z : pin_amount r c h ≡ 0 = no-pins (a.given == r) a.sizes.channels c in omega arith;
         stored = rule.stored;
         segments = segments_more key.sizes views b h (record {
           held = λ (g : TakenVersion) e. absurd (none_some g e);
@@ -233,7 +233,7 @@ module _ (key : Opening) where
         unused = λ k e. let u = unused k e in (u.0, same k ∙ u.1);
         scanned = λ t. let x = told' t in
             let y = sum_below-le (scan_count c' views) (scan_count c' state.views) (key.sizes.readers + 2)
-            (λ k l. amount-le (eqb k a.slot) (slot_at c' k).free (ltb k (length c'.scan)) (holders k views) (holders k state.views)
+            (λ k l. amount-le (k == a.slot) (slot_at c' k).free (nat_lt k (length c'.scan)) (holders k views) (holders k state.views)
             (λ e. let h = same k in omega arith)) in omega arith;
         count = (sum_still state id a c' at refl one ∙ rule.count.0, rule.count.1);
         numbers = λ n. sum_still state id a c' at refl (has_number n) ∙ rule.numbers n;
@@ -252,8 +252,8 @@ module _ (key : Opening) where
       let r = rule.count in
       let c = sum_below-le (scan_count (after_begin a) state.views) (λ k. holders k state.views) (key.sizes.readers + 2) (λ k l.
       let z : 0 ≤ k = omega arith in
-      subst (λ (m : Bool). amount (eqb k a.slot) (slot_at a k).free m (holders k state.views) ≤ holders k state.views)
-      (sym (le-ltb k 0 z)) (amount-new (eqb k a.slot) (slot_at a k).free (holders k state.views))) in omega arith
+      subst (λ (m : Bool). amount (k == a.slot) (slot_at a k).free m (holders k state.views) ≤ holders k state.views)
+      (sym (le-ltb k 0 z)) (amount-new (k == a.slot) (slot_at a k).free (holders k state.views))) in omega arith
 
   pub begins : (slots id : ℕ) (me : SeatView) → me.0 ≡ Writer (account_of me.0)
       → Allows (RegisterRule key) slots id me 0 (λ n. n) (IsScanBegin (step slots 0 0 0 none) me)
@@ -301,7 +301,7 @@ module _ (key : Opening) where
           (record (slot_at rule.account (length rule.account.scan)) { free = b })
 
       counted : List Slot → ℕ → ℕ → ℕ
-      counted ss n k = amount (eqb k rule.account.slot) (slice_index_or ss k no_slot).free (ltb k n) (holders k state.views)
+      counted ss n k = amount (k == rule.account.slot) (slice_index_or ss k no_slot).free (nat_lt k n) (holders k state.views)
 
       here : (b : Bool) → (slice_index_or (with_free b) next no_slot).free ≡ b
       here b = let d = rule.deep in let f = rule.few in ap (λ (z : Slot). z.free)
@@ -323,7 +323,7 @@ module _ (key : Opening) where
           (key.sizes.readers + 2) h in omega arith)
 
       rest-of : (b : Bool) (k : ℕ) → k ≢ next → counted (with_free b) (next + 1) k ≤ scan_count rule.account state.views k
-      rest-of b k h = subst (λ (z : Bool × Bool). amount (eqb k rule.account.slot) z.0 z.1
+      rest-of b k h = subst (λ (z : Bool × Bool). amount (k == rule.account.slot) z.0 z.1
           (holders k state.views) ≤ scan_count rule.account state.views k)
           (λ i. (sym (else b k h) i, sym (ltb-next k next h) i)) (same-le (scan_count rule.account state.views k))
 
@@ -340,8 +340,8 @@ module _ (key : Opening) where
             ∙ here false))))
             (λ (h : k ≢ next). rule.unused k (sym (else false k h) ∙ t)),
         total-of false (λ k l. dite (ℕ_discrete k next)
-            (λ (h : k ≡ next). amount-here (eqb k rule.account.slot) (slice_index_or (with_free false) k no_slot).free (ltb k (next + 1))
-            (holders k state.views) (scan_count rule.account state.views k) (ap (λ (j : ℕ). eqb j rule.account.slot) h ∙ e))
+            (λ (h : k ≡ next). amount-here (k == rule.account.slot) (slice_index_or (with_free false) k no_slot).free (nat_lt k (next + 1))
+            (holders k state.views) (scan_count rule.account state.views k) (ap (λ (j : ℕ). j == rule.account.slot) h ∙ e))
             (λ (h : k ≢ next). rest-of false k h)),
         λ t. absurd ((rule.unused next t).0 (true-eqb next rule.account.slot (sym e))),
       )
@@ -362,7 +362,7 @@ module _ (key : Opening) where
                 (λ (h : k ≡ next).
                 subst (λ (z : Bool × Bool × Bool × Bool × ℕ). amount z.0 z.1 z.2 z.4 ≤ amount z.0 (slot_at rule.account k).free z.3 z.4)
                 (λ i. (
-                  sym (ap (λ (n : ℕ). eqb n rule.account.slot) h ∙ e) i,
+                  sym (ap (λ (n : ℕ). n == rule.account.slot) h ∙ e) i,
                   sym (ap (λ (n : ℕ). (slice_index_or (with_free b) n no_slot).free) h ∙ here b) i,
                   sym (lt-ltb k (next + 1) (omega arith)) i,
                   sym (le-ltb k next (omega arith)) i,
@@ -414,9 +414,9 @@ module _ (key : Opening) where
         λ whole. subst (λ (m : ℕ). sum_below (marks b) (m + 2) ≤ m) (sym n)
             (let x = did.1 in
             let c = sum_below-le (marks b) (scan_count b state.views) (key.sizes.readers + 2) (λ k l.
-            subst (λ (m : Bool). marks b k ≤ amount (eqb k a.slot) (slot_at b k).free m (holders k state.views))
+            subst (λ (m : Bool). marks b k ≤ amount (k == a.slot) (slot_at b k).free m (holders k state.views))
             (sym (lt-ltb k (length b.scan) (omega arith)))
-            (amount-met (eqb k a.slot) (slot_at b k).free 0 (holders k state.views))) in omega arith),
+            (amount-met (k == a.slot) (slot_at b k).free 0 (holders k state.views))) in omega arith),
       )
 
   pub scans : (slots id : ℕ) (me : SeatView) → me.0 ≡ Writer (account_of me.0) → (account_of me.0).begun ≡ true

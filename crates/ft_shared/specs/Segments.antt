@@ -69,7 +69,7 @@ pub record SegmentRule (sizes : Sizes) (views : List View) (account : Account) :
   -- each slot bears, or bore last, a version of the history
   pub borne : (slot : ℕ) → slot < sizes.readers + 2
       → HasVersion account.history (slot_at account slot).version
-  -- what the scan answered is still so
+  -- the scan answered of each slot the version that it bears, or that it was found free
   pub answers : (slot : ℕ) → slot < length account.scan
       → slice_index_or account.scan slot None ≡ slot_answer account slot
   -- pins are looked at after the slots

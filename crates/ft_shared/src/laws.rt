@@ -2,14 +2,22 @@
 //!
 //! The rule holds between any two steps, since each step keeps it. So what follows from it holds
 //! between any two steps too.
-ghost use Rattle.std.specs.Prelude.{◌≡◌, ◌⊎◌, ℕ, List, ◌++◌, Some};
+ghost use Rattle.std.specs.Prelude.{◌≡◌, ◌⊎◌, ℕ, ◌+◌, List, ◌++◌, Some};
+ghost use Rattle.std.specs.List.{slice_get};
+ghost use mathlib.Core.Option.{some};
+ghost use lib.ListN.{get_elem?};
 ghost use Rattle.ft_shared.specs.declared.law.Opening.{Opening};
 ghost use Rattle.ft_shared.specs.declared.law.PlacedVersion.{PlacedVersion};
 ghost use Rattle.ft_shared.specs.declared.law.TakenVersion.{TakenVersion};
+ghost use Rattle.ft_shared.specs.declared.law.Pin.{Pin};
 ghost use Rattle.ft_shared.specs.declared.law.Notes.{Notes};
+ghost use Rattle.ft_shared.specs.declared.law.Hold.{Hold};
 ghost use Rattle.ft_shared.specs.declared.law.Account.{Account};
-ghost use Rattle.ft_shared.specs.History.{Agrees};
+ghost use Rattle.ft_shared.specs.declared.law.View.{View};
+ghost use Rattle.ft_shared.specs.Counts.{IsBehind, pin_of};
+ghost use Rattle.ft_shared.specs.History.{placed_at, Agrees, IsHistory};
 ghost use Rattle.ft_shared.specs.Account.{IsWhole, IsAnswered, Found, MayFill};
+ghost use Rattle.ft_shared.specs.Segments.{IsUnwritten, IsPinUnwritten};
 ghost use Rattle.ft_shared.specs.HeldSegments.{IsHeldBy, IsHeld};
 ghost use Rattle.ft_shared.specs.Pass.{note_take, note_pin};
 ghost use Rattle.ft_shared.specs.Register.{TableState, RegisterRule};
@@ -29,6 +37,38 @@ pub fn a_whole_scan_finds_each_held_segment()
 {
     held_by_a_pin_is_named();
 }
+
+/// What is held was not written since its version was placed: the segments of the current
+/// version, those of a version that a pass holds, and those that a pin holds.
+pub fn a_held_segment_is_as_placed()
+    ensures current { (key : Opening) (state : TableState) (rule : RegisterRule key state)
+        → IsUnwritten rule.account rule.account.version }
+    ensures held { (key : Opening) (state : TableState) (rule : RegisterRule key state)
+        (seat : ℕ) (view : View) (hold : Hold) → get_elem? state.views seat ≡ some view
+        → IsBehind view hold
+        → (taken : TakenVersion) → hold.notes.held ≡ Some taken
+        → IsUnwritten rule.account taken.version }
+    ensures pinned { (key : Opening) (state : TableState) (rule : RegisterRule key state)
+        (seat : ℕ) (view : View) (hold : Hold) → get_elem? state.views seat ≡ some view
+        → IsBehind view hold
+        → (channel : ℕ) (pin : Pin) → pin_of hold.notes channel ≡ Some pin
+        → IsPinUnwritten rule.account pin }
+{}
+
+/// The writer's history agrees with the notes of each pass.
+pub fn the_history_agrees_with_each_pass()
+    ensures { (key : Opening) (state : TableState) (rule : RegisterRule key state)
+        (seat : ℕ) (view : View) (hold : Hold) → get_elem? state.views seat ≡ some view
+        → IsBehind view hold
+        → Agrees rule.account.history hold.notes }
+{}
+
+/// In a history, which is in order, the version at place n is found by the number first + n.
+pub fn a_version_stands_at_its_number()
+    ensures { (history : List PlacedVersion) (first last root n : ℕ) (placed : PlacedVersion)
+        → IsHistory history first last root → slice_get history n ≡ Some placed
+        → placed_at history (first + n) ≡ Some placed }
+{}
 
 /// Until the next publish a reader's steps add no held segment that a whole scan did not find:
 /// a take holds the current version, and a pin is set from a version that the scan answered.

@@ -1,9 +1,9 @@
 //! The version register: one writer publishes versions, and up to eight readers
-//! take the current one and leave it. No call but `Shared::open` takes memory, and
-//! none waits for another thread.
+//! take the current one, read it, pin samples of it and leave it. No call but
+//! `Shared::open` takes memory, and none waits for another thread.
 //!
 //! docs/REGISTER.md tells how it works. The rule that every atomic step keeps is
-//! `RegisterRule` in `specs/Register.antt`.
+//! `RegisterRule` in `specs/Register.antt`; `laws` says what follows from it.
 #![tactic(auto)]
 
 mod law;
@@ -23,8 +23,9 @@ pub use law::{
     WordStep,
 };
 pub use laws::{
-    a_longer_history_agrees, a_take_or_a_pin_adds_nothing_unfound,
-    a_whole_scan_finds_each_held_segment,
+    a_held_segment_is_as_placed, a_longer_history_agrees, a_take_or_a_pin_adds_nothing_unfound,
+    a_version_stands_at_its_number, a_whole_scan_finds_each_held_segment,
+    the_history_agrees_with_each_pass,
 };
 pub use passes::ReaderPasses;
 pub use reader::{Held, ReaderPass};
