@@ -65,7 +65,8 @@ swap-found-requires c =
     let ours : key.sizes.readers ≡ c.args.self.now.sizes.readers = ap (λ o. o.sizes.readers) c.self.view_is in
     let readers = c.pass.invariant.readers in
     let pins : ℕ = key.sizes.readers * key.sizes.channels in
-    let wide : c.self.inside.words.table.shared.table_id.words ≡ key.sizes.readers + 3 + pins + 256 * key.sizes.segments = c.self.invariant.0 in
+    let wide : c.self.inside.words.table.shared.table_id.words ≡ key.sizes.readers + 3 + pins + 256 * key.sizes.segments =
+    c.self.invariant.0 in
     let me = c.store.new.place.me in
     let now : me ≡ (Writer (after_clear a k), []) = (c.store.ensures.2 k refl).0
     ∙ ap (λ m. (Writer (after_clear a k), m.1)) c.pass.invariant.seat in
