@@ -10,7 +10,9 @@ abbrev pub front : {A : Type 0} → List A → List A × List (List ℕ) → Lis
 front xs read = (xs ++ read.0, read.1)
 
 -- a line that has a value
-pub goes_on : {S A : Type 0} (value : S → List ℕ → Option A) (moved : S → A → S) (state : S) (line : List ℕ) (rest parts : List (List ℕ))
+pub goes_on :
+    {S A : Type 0} (value : S → List ℕ → Option A) (moved : S → A → S) (state : S) (line : List ℕ)
+    (rest parts : List (List ℕ))
     (x : A) (xs : List A)
     → parts ≡ line ∷ rest → (length rest == 0) ≡ false → value state line ≡ Some x
     → front (xs ++ x ∷ []) (lines_from value moved (moved state x) rest) ≡ front xs (lines_from value moved state parts)
@@ -18,12 +20,15 @@ unfolding lines_from
 goes_on value moved state line rest parts x xs here more said =
     let others = lines_from value moved (moved state x) rest in
     ap (λ ys. (ys, others.1)) (append_assoc xs (x ∷ []) others.0)
-    ∙ ap (λ found. front xs (while_some (line ∷ rest) found (λ y. lines_from value moved (moved state y) rest))) (sym said)
+    ∙ ap (λ found. front xs (while_some (line ∷ rest) found (λ y. lines_from value moved (moved state y) rest)))
+    (sym said)
     ∙ ap (front xs) (sym (cond-false (length rest == 0) _ _ more))
     ∙ ap (λ p. front xs (lines_from value moved state p)) (sym here)
 
 -- a line that has none
-pub stops : {S A : Type 0} (value : S → List ℕ → Option A) (moved : S → A → S) (state : S) (line : List ℕ) (rest parts : List (List ℕ))
+pub stops :
+    {S A : Type 0} (value : S → List ℕ → Option A) (moved : S → A → S) (state : S) (line : List ℕ)
+    (rest parts : List (List ℕ))
     → parts ≡ line ∷ rest → (length rest == 0) ≡ false → value state line ≡ None
     → lines_from value moved state parts ≡ ([], parts)
 unfolding lines_from
@@ -34,13 +39,16 @@ stops value moved state line rest parts here more said =
     ∙ ap (λ p. ([], p)) (sym here)
 
 -- no line is left
-pub is_last : {S A : Type 0} (value : S → List ℕ → Option A) (moved : S → A → S) (state : S) (last : List ℕ) (parts : List (List ℕ))
+pub is_last :
+    {S A : Type 0} (value : S → List ℕ → Option A) (moved : S → A → S) (state : S) (last : List ℕ)
+    (parts : List (List ℕ))
     → parts ≡ last ∷ [] → lines_from value moved state parts ≡ ([], parts)
 unfolding lines_from
 is_last value moved state last parts here = ap (lines_from value moved state) here ∙ ap (λ p. ([], p)) (sym here)
 
 -- these are all
-pub are_all : {S A : Type 0} (value : S → List ℕ → Option A) (moved : S → A → S) (first state : S) (start p : Place) (xs : List A)
+pub are_all :
+    {S A : Type 0} (value : S → List ℕ → Option A) (moved : S → A → S) (first state : S) (start p : Place) (xs : List A)
     → front xs (lines_from value moved state p.left) ≡ lines_from value moved first start.left
     → p.at ≡ start.at + length xs → lines_from value moved state p.left ≡ ([], p.left)
     → many value moved first start ≡ Ok (xs, p)
@@ -57,11 +65,13 @@ pub record IsRead {S A : Type 0} (value : S → List ℕ → Option A) (moved : 
   pub read : front xs (lines_from value moved state p.left) ≡ lines_from value moved first start.left
   pub count : p.at ≡ start.at + length xs
 
-pub one_more : {S A : Type 0} {value : S → List ℕ → Option A} {moved : S → A → S} {first state : S} {start p : Place} {xs : List A}
+pub one_more :
+    {S A : Type 0} {value : S → List ℕ → Option A} {moved : S → A → S} {first state : S} {start p : Place} {xs : List A}
     (after : S) (next : Place) (line : List ℕ) (x : A) (ys : List A) → IsRead value moved first state start p xs
     → IsAhead p line next → value state line ≡ Some x → after ≡ moved state x → ys ≡ xs ++ x ∷ []
     → IsRead value moved first after start next ys
-one_more {value = value} {moved = moved} {first = first} {state = state} {start = start} {p = p} {xs = xs} after next line x ys so_far ahead said moves longer =
+one_more {value = value} {moved = moved} {first = first} {state = state} {start = start} {p = p} {xs = xs} after next
+    line x ys so_far ahead said moves longer =
     record {
       read =
           ap (λ s. front ys (lines_from value moved s next.left)) moves
@@ -71,14 +81,17 @@ one_more {value = value} {moved = moved} {first = first} {state = state} {start 
       count = omega (arith, ap length longer, length_push xs x);
     }
 
-pub none_more : {S A : Type 0} {value : S → List ℕ → Option A} {moved : S → A → S} {first state : S} {start p : Place} {xs : List A}
+pub none_more :
+    {S A : Type 0} {value : S → List ℕ → Option A} {moved : S → A → S} {first state : S} {start p : Place} {xs : List A}
     (next : Place) (line : List ℕ) → IsRead value moved first state start p xs
     → IsAhead p line next → value state line ≡ None → many value moved first start ≡ Ok (xs, p)
-none_more {value = value} {moved = moved} {first = first} {state = state} {start = start} {p = p} {xs = xs} next line so_far ahead said =
+none_more {value = value} {moved = moved} {first = first} {state = state} {start = start} {p = p} {xs = xs} next line
+    so_far ahead said =
     are_all value moved first state start p xs so_far.read so_far.count
     (stops value moved state line next.left p.left ahead.parts ahead.more said)
 
-pub no_line : {S A : Type 0} {value : S → List ℕ → Option A} {moved : S → A → S} {first state : S} {start p : Place} {xs : List A}
+pub no_line :
+    {S A : Type 0} {value : S → List ℕ → Option A} {moved : S → A → S} {first state : S} {start p : Place} {xs : List A}
     → IsRead value moved first state start p xs → IsLast p → many value moved first start ≡ Ok (xs, p)
 no_line {value = value} {moved = moved} {first = first} {state = state} {start = start} {p = p} {xs = xs} so_far last =
     are_all value moved first state start p xs so_far.read so_far.count (is_last value moved state last.0 p.left last.1)

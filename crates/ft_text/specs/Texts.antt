@@ -20,4 +20,5 @@ edit_text edit = text_of_words (words_of edit)
 -- a batch: its edits with ` ; ` between two of them
 unfoldable pub batch_text : List Edit → List ℕ
 batch_text [] = []
-batch_text (edit ∷ others) = edit_text edit ++ flat_map (λ other. codes " ; " ++ edit_text other) others
+batch_text (edit ∷ others) =
+    edit_text edit ++ flat_map (λ other. codes " ; " ++ edit_text other) others

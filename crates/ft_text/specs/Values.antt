@@ -55,7 +55,8 @@ doubles (high ∷ low ∷ rest) = before (cast_signed w16 (high * 256 + low)) (d
 -- 1 to 256 frames
 abbrev pub few : Option (List ℤ) → Option (List ℤ)
 few None = None
-few (Some frames) = if nat_le 1 (length frames) && nat_le (length frames) 256 then Some frames else None
+few (Some frames) =
+    if nat_le 1 (length frames) && nat_le (length frames) 256 then Some frames else None
 
 abbrev pub doubles_if : Option (List ℕ) → Option (List ℤ)
 doubles_if None = None

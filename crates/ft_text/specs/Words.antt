@@ -18,13 +18,16 @@ frame_bytes frames = flat_map (λ frame. to_be_bytes w16 (cast_unsigned w16 fram
 -- numbers in decimal, names in two lower-case hexadecimal digits a byte, frames in four each
 abbrev pub words_of : Edit → List (List ℕ)
 -- patterns
-words_of (edits.Cell p r c note ins vol eff par) = codes "cell" ∷ numbers (p ∷ r ∷ c ∷ note ∷ ins ∷ vol ∷ eff ∷ par ∷ [])
+words_of (edits.Cell p r c note ins vol eff par) =
+    codes "cell" ∷ numbers (p ∷ r ∷ c ∷ note ∷ ins ∷ vol ∷ eff ∷ par ∷ [])
 words_of (edits.Rows p n) = codes "rows" ∷ numbers (p ∷ n ∷ [])
 words_of (edits.Insrow p r) = codes "insrow" ∷ numbers (p ∷ r ∷ [])
 words_of (edits.Delrow p r) = codes "delrow" ∷ numbers (p ∷ r ∷ [])
 words_of (edits.Clear p r c h w) = codes "clear" ∷ numbers (p ∷ r ∷ c ∷ h ∷ w ∷ [])
-words_of (edits.Transpose p r c h w d) = codes "transpose" ∷ numbers (p ∷ r ∷ c ∷ h ∷ w ∷ []) ++ signed_decimal d ∷ []
-words_of (edits.Copy p r c h w q r2 c2) = codes "copy" ∷ numbers (p ∷ r ∷ c ∷ h ∷ w ∷ q ∷ r2 ∷ c2 ∷ [])
+words_of (edits.Transpose p r c h w d) =
+    codes "transpose" ∷ numbers (p ∷ r ∷ c ∷ h ∷ w ∷ []) ++ signed_decimal d ∷ []
+words_of (edits.Copy p r c h w q r2 c2) =
+    codes "copy" ∷ numbers (p ∷ r ∷ c ∷ h ∷ w ∷ q ∷ r2 ∷ c2 ∷ [])
 -- the song
 words_of (edits.Order position p) = codes "order" ∷ numbers (position ∷ p ∷ [])
 words_of (edits.Insorder position p) = codes "insorder" ∷ numbers (position ∷ p ∷ [])
@@ -40,20 +43,25 @@ words_of edits.Newins = codes "newins" ∷ []
 words_of (edits.Clearins i) = codes "clearins" ∷ numbers (i ∷ [])
 words_of (edits.Insname i name) = codes "insname" ∷ numbers (i ∷ []) ++ encode_lower name ∷ []
 words_of (edits.Map i n k) = codes "map" ∷ numbers (i ∷ n ∷ k ∷ [])
-words_of (edits.Env i w count sus ls le flags) = codes "env" ∷ numbers (i ∷ w ∷ count ∷ sus ∷ ls ∷ le ∷ flags ∷ [])
+words_of (edits.Env i w count sus ls le flags) =
+    codes "env" ∷ numbers (i ∷ w ∷ count ∷ sus ∷ ls ∷ le ∷ flags ∷ [])
 words_of (edits.Point i w k x y) = codes "point" ∷ numbers (i ∷ w ∷ k ∷ x ∷ y ∷ [])
-words_of (edits.Vib i kind sweep depth rate) = codes "vib" ∷ numbers (i ∷ kind ∷ sweep ∷ depth ∷ rate ∷ [])
+words_of (edits.Vib i kind sweep depth rate) =
+    codes "vib" ∷ numbers (i ∷ kind ∷ sweep ∷ depth ∷ rate ∷ [])
 words_of (edits.Fade i n) = codes "fade" ∷ numbers (i ∷ n ∷ [])
 -- samples
 words_of (edits.Newsmp i) = codes "newsmp" ∷ numbers (i ∷ [])
 words_of (edits.Delsmp i) = codes "delsmp" ∷ numbers (i ∷ [])
 words_of (edits.Smpname i s name) = codes "smpname" ∷ numbers (i ∷ s ∷ []) ++ encode_lower name ∷ []
 words_of (edits.Smp i s vol fine rel pan) =
-    codes "smp" ∷ numbers (i ∷ s ∷ vol ∷ []) ++ signed_decimal fine ∷ signed_decimal rel ∷ decimal pan ∷ []
+    codes "smp" ∷ numbers (i ∷ s ∷ vol ∷ []) ++ signed_decimal fine ∷ signed_decimal rel
+    ∷ decimal pan ∷ []
 words_of (edits.Loop i s kind start len) = codes "loop" ∷ numbers (i ∷ s ∷ kind ∷ start ∷ len ∷ [])
 -- frames
 words_of (edits.Cut i s from to) = codes "cut" ∷ numbers (i ∷ s ∷ from ∷ to ∷ [])
-words_of (edits.Paste i s at frames) = codes "paste" ∷ numbers (i ∷ s ∷ at ∷ []) ++ encode_lower (frame_bytes frames) ∷ []
+words_of (edits.Paste i s at frames) =
+    codes "paste" ∷ numbers (i ∷ s ∷ at ∷ []) ++ encode_lower (frame_bytes frames) ∷ []
 words_of (edits.Reverse i s from to) = codes "reverse" ∷ numbers (i ∷ s ∷ from ∷ to ∷ [])
-words_of (edits.Scale i s from to n d) = codes "scale" ∷ numbers (i ∷ s ∷ from ∷ to ∷ []) ++ signed_decimal n ∷ decimal d ∷ []
+words_of (edits.Scale i s from to n d) =
+    codes "scale" ∷ numbers (i ∷ s ∷ from ∷ to ∷ []) ++ signed_decimal n ∷ decimal d ∷ []
 words_of (edits.Bits i s b) = codes "bits" ∷ numbers (i ∷ s ∷ b ∷ [])

@@ -11,12 +11,14 @@ returns-in_default-2-clause-read c =
 
 pub loop-line-preserved : goal.loop-line-preserved
 loop-line-preserved c = record {
-  so_far = one_more 0 c.in-Some.next c.in-Some.line.now c.in-Some-2.entry c.enter.new.self.entries c.loop-line.invariant.so_far c.in-Some.ensures
+  so_far = one_more 0 c.in-Some.next c.in-Some.line.now c.in-Some-2.entry c.enter.new.self.entries
+      c.loop-line.invariant.so_far c.in-Some.ensures
       (sym c.in_ok-entry.ensures.value ∙ c.in-Some-2.is) refl
       (c.enter.ensures.entries ∙ ap (λ xs. xs ++ c.in-Some-2.entry ∷ []) c.in_ok-reserve.ensures.entries);
   others = c.enter.ensures.refusals ∙ c.in_ok-reserve.ensures.refusals ∙ c.loop-line.invariant.others;
   given = all_pushed CanBeEntered c.loop-line.journal.entries c.in-Some-2.entry c.enter.new.self.entries
-      (c.enter.ensures.entries ∙ ap (λ xs. xs ++ c.in-Some-2.entry ∷ []) c.in_ok-reserve.ensures.entries) c.loop-line.invariant.given
+      (c.enter.ensures.entries ∙ ap (λ xs. xs ++ c.in-Some-2.entry ∷ []) c.in_ok-reserve.ensures.entries)
+      c.loop-line.invariant.given
       (search rules);
 }
 

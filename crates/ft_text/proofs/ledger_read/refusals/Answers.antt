@@ -11,12 +11,14 @@ returns-in_default-2-clause-read c =
 
 pub loop-line-preserved : goal.loop-line-preserved
 loop-line-preserved c = record {
-  so_far = one_more 0 c.in-Some.next c.in-Some.line.now c.in-Some-2.refusal c.refuse.new.self.refusals c.loop-line.invariant.so_far c.in-Some.ensures
+  so_far = one_more 0 c.in-Some.next c.in-Some.line.now c.in-Some-2.refusal c.refuse.new.self.refusals
+      c.loop-line.invariant.so_far c.in-Some.ensures
       (sym c.in_ok-refusal.ensures.value ∙ c.in-Some-2.is) refl
       (c.refuse.ensures.refusals ∙ ap (λ xs. xs ++ c.in-Some-2.refusal ∷ []) c.in_ok-reserve.ensures.refusals);
   others = c.refuse.ensures.entries ∙ c.in_ok-reserve.ensures.entries ∙ c.loop-line.invariant.others;
   given = all_pushed CanBeRefused c.loop-line.journal.refusals c.in-Some-2.refusal c.refuse.new.self.refusals
-      (c.refuse.ensures.refusals ∙ ap (λ xs. xs ++ c.in-Some-2.refusal ∷ []) c.in_ok-reserve.ensures.refusals) c.loop-line.invariant.given
+      (c.refuse.ensures.refusals ∙ ap (λ xs. xs ++ c.in-Some-2.refusal ∷ []) c.in_ok-reserve.ensures.refusals)
+      c.loop-line.invariant.given
       (search rules);
 }
 
