@@ -1,5 +1,5 @@
 -- What a history that agrees with a pass's notes lets a view show.
-use Rattle.std.proofs.Common.{◌≡◌, ◌≤◌, ◌++◌, ℕ, List, length, Option, Some, IsSomeAnd, refl, subst, arith, sym, ap}
+use Rattle.std.proofs.Common.{◌≡◌, ◌≢◌, ◌+◌, ◌*◌, ◌<◌, ◌≤◌, ◌++◌, get_or-set_other, ℕ, List, length, Option, Some, IsSomeAnd, ◌∙◌, refl, subst, arith, sym, ap}
 use Rattle.ft_types.specs.declared.module.Module.{Module}
 use Rattle.ft_types.specs.declared.sample.Sample.{Sample}
 use Rattle.ft_types.specs.Valid.{IsValidSample}
@@ -10,6 +10,7 @@ use Rattle.ft_segments.specs.Walk.{Placed, IsOf, sample_uses, sample_walk}
 use Rattle.ft_shared.specs.declared.law.Pin.{Pin}
 use Rattle.ft_shared.specs.declared.law.PlacedVersion.{PlacedVersion}
 use Rattle.ft_shared.specs.declared.law.TakenVersion.{TakenVersion}
+use Rattle.ft_shared.specs.Account.{after_fill}
 use Rattle.ft_shared.specs.Counts.{pin_of}
 use Rattle.ft_shared.specs.History.{placed_at, place_of, Agrees}
 use Rattle.ft_shared.specs.Pass.{ReaderState, WriterState}
@@ -77,3 +78,11 @@ written-shown pass placed among stands = λ s of. (among, stands, of)
 
 pub these-stand : (pass : WriterState) (placed : Placed) → placed.pool ≡ pass.account.pool → StandsWritten pass placed
 these-stand pass placed e = λ s of j l. ap (λ (pool : List ℕ). word_at pool s j) (sym e)
+
+-- a version that doesn't have the segment stands while that is filled
+pub filled-stands : (pass : WriterState) (placed : Placed) (segment at word : ℕ) → StandsWritten pass placed
+    → (IsOf placed segment → ⊥) → at < 256 → StandsWritten (record pass { account = after_fill pass.account segment at word }) placed
+filled-stands pass placed segment at word stands none low = λ s of j l.
+    let other : s ≢ segment = λ e. none (subst (IsOf placed) e of) in
+    let apart : s * 256 + j ≢ segment * 256 + at = λ e. other (omega arith) in
+    get_or-set_other pass.account.pool (segment * 256 + at) (s * 256 + j) word 0 apart ∙ stands s of j l

@@ -1,13 +1,14 @@
 //! What the views over passes may show, by a history that agrees with the notes. These functions do
 //! nothing; their contracts say what holds.
 
-ghost use Rattle.std.specs.Prelude.{◌≡◌, ℕ, List, Some};
+ghost use Rattle.std.specs.Prelude.{◌≡◌, ◌<◌, ℕ, List, Some};
 ghost use Rattle.ft_types.specs.declared.module.Module.{Module};
 ghost use Rattle.ft_types.specs.declared.sample.Sample.{Sample};
-ghost use Rattle.ft_segments.specs.Walk.{Placed};
+ghost use Rattle.ft_segments.specs.Walk.{Placed, IsOf};
 ghost use Rattle.ft_shared.specs.declared.law.Pin.{Pin};
 ghost use Rattle.ft_shared.specs.declared.law.PlacedVersion.{PlacedVersion};
 ghost use Rattle.ft_shared.specs.declared.law.TakenVersion.{TakenVersion};
+ghost use Rattle.ft_shared.specs.Account.{after_fill};
 ghost use Rattle.ft_shared.specs.Counts.{pin_of};
 ghost use Rattle.ft_shared.specs.History.{placed_at, place_of, Agrees};
 ghost use Rattle.ft_shared.specs.Pass.{ReaderState, WriterState};
@@ -53,12 +54,16 @@ pub fn a_pinned_sample_may_be_shown()
     a_pin_holds_its_sample();
 }
 
-/// The view of the writer's pass may show each version that stands in the words last written, as
-/// one does that has just these words.
+/// The view of the writer's pass may show each version that stands in the words last written. A
+/// version of just these words stands in them, and stands still when a segment of no part in it is
+/// filled.
 pub fn a_written_version_may_be_shown()
     ensures all { (pass : WriterState) (placed : Placed)
         → IsAmong pass.register.sizes.segments placed → StandsWritten pass placed
         → MayShowAll MayShowWritten pass placed }
     ensures these { (pass : WriterState) (placed : Placed) → placed.pool ≡ pass.account.pool
         → StandsWritten pass placed }
+    ensures filled { (pass : WriterState) (placed : Placed) (segment at word : ℕ)
+        → StandsWritten pass placed → (IsOf placed segment → ⊥) → at < 256 → StandsWritten
+        (record pass { account = after_fill pass.account segment at word }) placed }
 {}
