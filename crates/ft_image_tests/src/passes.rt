@@ -7,7 +7,7 @@ ghost use Rattle.ft_shared.specs.Counts.{pin_of};
 ghost use Rattle.ft_image_tests.specs.Opened.{IsOpened};
 
 use crate::placed::song_of;
-use crate::views::{held_cell, held_frame, held_rows, pinned_frame, written_cell};
+use crate::views::{held_cell, held_frame, held_rows, held_word, pinned_frame, written_cell};
 use ft_image::place;
 use ft_shared::{ReaderPass, Shared, WriterPass};
 use ft_songs::{EMPTY, NOTE};
@@ -86,7 +86,8 @@ fn publish_again(shared: &Shared, writer: &mut WriterPass) -> u32
     shared.publish(writer, 0)
 }
 
-/// Whether rows, cells and frames are those of the small song, by the version that a pass holds.
+/// Whether rows, words, cells and frames are those of the small song of seven segments, by the
+/// version that a pass holds. There is no segment 7, whose words are 0.
 fn holds_song<L: Ledger>(
     shared: &Shared,
     reader: &mut ReaderPass,
@@ -99,12 +100,15 @@ fn holds_song<L: Ledger>(
     ensures held { reader.new.notes.held ≡ reader.old.notes.held }
 {
     let stored = held_rows(shared, reader, root, 0, steps);
-    let beyond = held_rows(shared, reader, 60_000, 0, steps);
+    let here = held_word(shared, reader, root, 1, steps);
+    let beyond = held_word(shared, reader, 7, 1, steps);
     let note = held_cell(shared, reader, root, 0, steps);
     let empty = held_cell(shared, reader, root, 64, steps);
     let low = held_frame(shared, reader, 4, 397, steps);
     let last = held_frame(shared, reader, 4, 399, steps);
-    (stored == 64 && beyond == 64) && (note == NOTE && empty == EMPTY) && (low == -64 && last == 64)
+    (stored == 64 && here == 0x1_0001 && beyond == 0)
+        && (note == NOTE && empty == EMPTY)
+        && (low == -64 && last == 64)
 }
 
 /// Whether the frames are those of the small song, by the pin of channel 0.

@@ -16,8 +16,8 @@ ghost use Rattle.ft_image.specs.Read.{IsRootOf};
 ghost use Rattle.ft_image.specs.Passes.{IsAmong, StandsWritten, HasReadOn, HasMadeSteps};
 
 use ft_image::{
-    PassWords, PinnedWords, WriterWords, a_held_version_may_be_shown, a_pinned_sample_may_be_shown,
-    a_written_version_may_be_shown, cell, frame, rows,
+    PassWords, PinnedWords, WordView, WriterWords, a_held_version_may_be_shown,
+    a_pinned_sample_may_be_shown, a_written_version_may_be_shown, cell, frame, rows,
 };
 use ft_shared::{ReaderPass, Shared, WriterPass};
 use ft_types::{Cell, Steps};
@@ -51,6 +51,29 @@ pub fn held_rows<L: Ledger>(
         steps,
     };
     rows(&mut view, root, pattern)
+}
+
+/// A word of a segment, by the version that a pass holds.
+pub fn held_word<L: Ledger>(
+    shared: &Shared,
+    pass: &mut ReaderPass,
+    segment: u16,
+    at: u8,
+    steps: &mut Steps<L>,
+) -> u64
+    requires same { pass.old.register ≡ shared.now }
+    requires held { IsSome pass.old.notes.held }
+    ensures on { HasReadOn pass.old pass.new }
+    ensures kept { (pass.new.register ≡ pass.old.register)
+        × (pass.new.notes.held ≡ pass.old.notes.held)
+        × (pass.new.notes.pins ≡ pass.old.notes.pins) }
+{
+    let mut view = PassWords {
+        shared,
+        pass,
+        steps,
+    };
+    view.word(segment, at)
 }
 
 /// A cell of the version that a pass holds, by its root.
