@@ -1,8 +1,8 @@
 -- What a read leaves, nothing and one more read leave too.
-use Rattle.std.specs.Prelude.{[], ◌++◌}
-use Rattle.std.proofs.Common.{sym, ap, ◌∙◌, append-nil, append_assoc}
+use Rattle.std.specs.Prelude.{ℕ, [], ◌++◌}
+use Rattle.std.proofs.Common.{sym, ap, arith, ◌∙◌, append-nil, append_assoc}
 use Rattle.ft_shared.specs.Pass.{ReaderState, WriterState}
-use Rattle.ft_image.specs.Passes.{after_reads, HasReadOn, HasMadeSteps}
+use Rattle.ft_image.specs.Passes.{after_reads, HasReadOn, AreCounted, HasMadeSteps}
 
 pub reads_nothing : (pass : ReaderState) → HasReadOn pass pass
 reads_nothing pass = record {
@@ -20,7 +20,9 @@ pub reads_through : (a b c : ReaderState) → HasReadOn a b → HasReadOn b c �
 reads_through a b c e f = record {
   reads = e.reads ++ f.reads;
   steps = e.steps ++ f.steps;
-  is = f.is ∙ (ap (λ (x : ReaderState). record x { notes = after_reads x.notes f.reads f.steps }) e.is
+  is = f.is ∙ (ap (λ (x : ReaderState). record x {
+    notes = after_reads x.notes f.reads f.steps;
+  }) e.is
       ∙ (λ i. record a {
         notes = record a.notes {
           reads = append_assoc a.notes.reads e.reads f.reads i;
@@ -28,6 +30,10 @@ reads_through a b c e f = record {
         };
       }));
 }
+
+pub counted_through : (a b c : ReaderState) (x y z : ℕ) → AreCounted a b x y → AreCounted b c y z
+    → AreCounted a c x z
+counted_through a b c x y z e f = omega arith
 
 pub steps_nothing : (pass : WriterState) → HasMadeSteps pass pass
 steps_nothing pass = record {

@@ -1,5 +1,5 @@
 -- What views over the passes of a register may show, and what a read leaves of a pass.
-use Rattle.std.specs.Prelude.{◌≡◌, ℕ, ◌<◌, List, ◌++◌, Some}
+use Rattle.std.specs.Prelude.{◌≡◌, ℕ, ◌+◌, ◌<◌, List, ◌++◌, length, Some}
 use Rattle.ft_segments.specs.Walk.{Placed, IsOf, SameWords}
 use Rattle.ft_segments.specs.Pins.{PinHolds}
 use Rattle.ft_shared.specs.declared.law.TakenVersion.{TakenVersion}
@@ -76,6 +76,11 @@ pub record HasReadOn (old new : ReaderState) : Type 0 where
   pub reads : List WordRead
   pub steps : List WordStep
   pub is : new ≡ record old { notes = after_reads old.notes reads steps }
+
+-- the count rose by as many as the steps that a reader's pass made
+abbrev pub AreCounted : ReaderState → ReaderState → ℕ → ℕ → Type 0
+AreCounted old new count more =
+    length new.notes.steps + count ≡ length old.notes.steps + more
 
 -- the writer's pass has made more steps, and all else of it is as it was
 pub record HasMadeSteps (old new : WriterState) : Type 0 where

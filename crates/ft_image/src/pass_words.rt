@@ -2,8 +2,8 @@
 
 ghost use Rattle.std.specs.Prelude.{◌≡◌, IsSome};
 ghost use Rattle.std.proofs.Common.{◌∙◌, refl};
-ghost use Rattle.ft_image.specs.Passes.{MayShowHeld, HasReadOn};
-ghost use Rattle.ft_image.specs.PassLaws.{reads_nothing, reads_through};
+ghost use Rattle.ft_image.specs.Passes.{MayShowHeld, HasReadOn, AreCounted};
+ghost use Rattle.ft_image.specs.PassLaws.{reads_nothing, reads_through, counted_through};
 
 use crate::view::WordView;
 use ft_shared::{
@@ -34,15 +34,18 @@ impl<'a, 'b, 'c, L: Ledger> WordView for PassWords<'a, 'b, 'c, L> {
 
     ghost same = { λ v w. (v.shared.now ≡ w.shared.now)
         × (v.pass.ghost_name ≡ w.pass.ghost_name) × (v.steps.ghost_name ≡ w.steps.ghost_name)
-        × HasReadOn v.pass.now w.pass.now };
+        × HasReadOn v.pass.now w.pass.now
+        × AreCounted v.pass.now w.pass.now v.steps.now w.steps.now };
 
-    ghost same_here = { λ v. (refl, refl, refl, reads_nothing v.pass.now) };
+    ghost same_here = { λ v. (refl, refl, refl, reads_nothing v.pass.now, refl) };
 
     ghost same_through = { λ u v w e f. (
       e.0 ∙ f.0,
       e.1 ∙ f.1,
       e.2 ∙ f.2,
       reads_through u.pass.now v.pass.now w.pass.now e.3 f.3,
+      counted_through u.pass.now v.pass.now w.pass.now
+          u.steps.now v.steps.now w.steps.now e.4 f.4,
     ) };
 
     fn word(&mut self, seg: u16, at: u8) -> u64 {

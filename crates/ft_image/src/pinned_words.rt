@@ -3,8 +3,8 @@
 ghost use Rattle.std.specs.Prelude.{◌≡◌, IsSome};
 ghost use Rattle.std.proofs.Common.{◌∙◌, refl};
 ghost use Rattle.ft_shared.specs.Counts.{pin_of};
-ghost use Rattle.ft_image.specs.Passes.{MayShowPinned, HasReadOn};
-ghost use Rattle.ft_image.specs.PassLaws.{reads_nothing, reads_through};
+ghost use Rattle.ft_image.specs.Passes.{MayShowPinned, HasReadOn, AreCounted};
+ghost use Rattle.ft_image.specs.PassLaws.{reads_nothing, reads_through, counted_through};
 
 use crate::view::WordView;
 use ft_shared::{
@@ -37,9 +37,10 @@ impl<'a, 'b, 'c, L: Ledger> WordView for PinnedWords<'a, 'b, 'c, L> {
 
     ghost same = { λ v w. (v.shared.now ≡ w.shared.now) × (v.channel ≡ w.channel)
         × (v.pass.ghost_name ≡ w.pass.ghost_name) × (v.steps.ghost_name ≡ w.steps.ghost_name)
-        × HasReadOn v.pass.now w.pass.now };
+        × HasReadOn v.pass.now w.pass.now
+        × AreCounted v.pass.now w.pass.now v.steps.now w.steps.now };
 
-    ghost same_here = { λ v. (refl, refl, refl, refl, reads_nothing v.pass.now) };
+    ghost same_here = { λ v. (refl, refl, refl, refl, reads_nothing v.pass.now, refl) };
 
     ghost same_through = { λ u v w e f. (
       e.0 ∙ f.0,
@@ -47,6 +48,8 @@ impl<'a, 'b, 'c, L: Ledger> WordView for PinnedWords<'a, 'b, 'c, L> {
       e.2 ∙ f.2,
       e.3 ∙ f.3,
       reads_through u.pass.now v.pass.now w.pass.now e.4 f.4,
+      counted_through u.pass.now v.pass.now w.pass.now
+          u.steps.now v.steps.now w.steps.now e.5 f.5,
     ) };
 
     fn word(&mut self, seg: u16, at: u8) -> u64 {

@@ -43,7 +43,8 @@ index-root-used : (s k : ℕ) (ids : SampleIds) (index : IndexIds) → slice_get
     → 1 ≤ sample_uses s ids
 index-root-used s k ids index at e =
     let one = is-itself s index.root (sym e) in
-    let same : index_uses s (get_or ids.indexes k index) ≡ index_uses s index = ap (index_uses s) (get_or_from_slice_get ids.indexes k index index at) in
+    let same : index_uses s (get_or ids.indexes k index) ≡ index_uses s index
+    = ap (index_uses s) (get_or_from_slice_get ids.indexes k index index at) in
     let part = get_or-le-sum_by (index_uses s) ids.indexes k index (slice_get_within ids.indexes k index at) in
     omega arith
 

@@ -4,7 +4,7 @@ use Rattle.ft_image.proofs.Noted.{held_before, word_noted, held_answer}
 use Rattle.ft_image.proofs.pass_words.PassWordsWordView.word.Goals as goal
 
 pub returns-then-seg-segments-clause-same : goal.returns-then-seg-segments-clause-same
-returns-then-seg-segments-clause-same g c = (refl, refl, refl, reads_nothing c.args.self.now.pass.now)
+returns-then-seg-segments-clause-same g c = (refl, refl, refl, reads_nothing c.args.self.now.pass.now, refl)
 
 pub returns-clause-narrows : goal.returns-clause-narrows
 returns-clause-narrows g c =

@@ -4,7 +4,7 @@ use Rattle.ft_image.proofs.Noted.{pinned_before, pinned_noted, pinned_answer}
 use Rattle.ft_image.proofs.pinned_words.PinnedWordsWordView.word.Goals as goal
 
 pub returns-then-seg-segments-clause-same : goal.returns-then-seg-segments-clause-same
-returns-then-seg-segments-clause-same g c = (refl, refl, refl, refl, reads_nothing c.args.self.now.pass.now)
+returns-then-seg-segments-clause-same g c = (refl, refl, refl, refl, reads_nothing c.args.self.now.pass.now, refl)
 
 pub returns-clause-narrows : goal.returns-clause-narrows
 returns-clause-narrows g c =
