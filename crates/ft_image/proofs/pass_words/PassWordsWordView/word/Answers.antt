@@ -9,7 +9,7 @@ returns-then-seg-segments-clause-same g c = (refl, refl, refl, reads_nothing c.a
 pub returns-clause-narrows : goal.returns-clause-narrows
 returns-clause-narrows g c =
     let old = c.args.self.now.pass.now in
-    let on = word_noted old c.word.new.pass c.args.seg c.args.at c.word.result c.word.ensures.noted in
+    let on = word_noted old c.word.new.pass _ _ _ c.word.ensures.noted in
     held_before c.a_history_agrees_with_fewer_reads.ensures old c.word.new.pass on
 
 pub returns-clause-answer : goal.returns-clause-answer

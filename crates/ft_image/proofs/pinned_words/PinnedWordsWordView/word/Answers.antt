@@ -11,7 +11,7 @@ returns-clause-narrows g c =
     let old = c.args.self.now.pass.now in
     let new = c.pinned_word.new.pass in
     let channel = c.args.self.now.channel in
-    let on = pinned_noted old new channel c.args.seg c.args.at c.pinned_word.result c.pinned_word.ensures.noted in
+    let on = pinned_noted old new _ _ _ _ c.pinned_word.ensures.noted in
     pinned_before c.a_history_agrees_with_fewer_reads.ensures old new channel on
 
 pub returns-clause-answer : goal.returns-clause-answer
