@@ -12,3 +12,5 @@ pub mod Roots
 pub mod Whole
 pub mod Kept
 pub mod Counted
+pub mod Noted
+pub mod Agreed

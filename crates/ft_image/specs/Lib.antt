@@ -3,3 +3,5 @@ pub mod Shown
 pub mod Read
 pub mod Laid
 pub mod Laws
+pub mod Passes
+pub mod PassLaws

@@ -8,8 +8,11 @@ mod image;
 mod instrument_placing;
 mod instrument_reading;
 mod laws;
+mod pass_laws;
+mod pass_words;
 mod pattern_placing;
 mod pattern_reading;
+mod pinned_words;
 mod sample_placing;
 mod sample_reading;
 mod slice;
@@ -17,12 +20,20 @@ mod song_placing;
 mod song_reading;
 mod values;
 mod view;
+mod writer_words;
 
 pub use image::{Image, place};
 pub use instrument_reading::{envelope, sample_root, shape};
 pub use laws::{shown_has_blocks, shown_stays, walk_is_there};
+pub use pass_laws::{
+    a_held_version_may_be_shown, a_history_agreed_before, a_pinned_sample_may_be_shown,
+    a_written_version_may_be_shown,
+};
+pub use pass_words::PassWords;
 pub use pattern_reading::{cell, rows};
+pub use pinned_words::PinnedWords;
 pub use sample_reading::{frame, sample_head};
 pub use slice::SliceWords;
 pub use song_reading::{head, order};
 pub use view::WordView;
+pub use writer_words::WriterWords;

@@ -6,6 +6,10 @@ mod large;
 #[cfg(test)]
 mod limits;
 #[cfg(test)]
+mod passes;
+#[cfg(test)]
 mod placed;
 #[cfg(test)]
 mod small;
+#[cfg(test)]
+mod views;

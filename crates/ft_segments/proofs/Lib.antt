@@ -1,3 +1,4 @@
 pub mod Samples
 pub mod Pins
+pub mod Named
 pub mod Bare

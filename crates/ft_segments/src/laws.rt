@@ -1,10 +1,10 @@
 //! Laws of the definitions. These functions do nothing; their contracts say what holds.
 
-ghost use Rattle.std.specs.Prelude.{◌≡◌, ℕ, List, ◌≤◌, ◌<◌};
+ghost use Rattle.std.specs.Prelude.{◌≡◌, ℕ, List, ◌≤◌, ◌<◌, length};
 ghost use Rattle.ft_segments.specs.Laws.{SampleStays, SampleIsOfIt};
 ghost use Rattle.ft_segments.specs.Packing.{word_at};
-ghost use Rattle.ft_segments.specs.Pins.{PinHolds};
-ghost use Rattle.ft_segments.specs.Walk.{Placed, IsSound, SameWords, is_it, walk, uses};
+ghost use Rattle.ft_segments.specs.Pins.{index_room, PinHolds};
+ghost use Rattle.ft_segments.specs.Walk.{Placed, IsOf, IsSound, SameWords, is_it, walk, uses};
 ghost use Rattle.ft_segments.specs.Walk.{sample_walk, sample_uses};
 
 /// The walk from a sample's root stays while the words of its segments stay.
@@ -24,6 +24,17 @@ pub fn held_by_a_pin_is_named()
         → ((held : ℕ) → PinHolds placed root held → SameWords placed.pool pool held)
         → PinHolds placed root segment
         → 1 ≤ sample_uses segment (sample_walk pool root) }
+{}
+
+/// Where all segments that a sample's root names are the version's, a pin of the root holds each of
+/// them. The sample has no more indexes than its root has room for.
+pub fn a_pin_holds_its_sample()
+    ensures { (placed : Placed) (root segment : ℕ)
+        → length (sample_walk placed.pool root).indexes ≤ index_room
+        → ((named : ℕ) → 1 ≤ sample_uses named (sample_walk placed.pool root)
+        → IsOf placed named)
+        → 1 ≤ sample_uses segment (sample_walk placed.pool root)
+        → PinHolds placed root segment }
 {}
 
 /// A root of a song without patterns and instruments names itself alone, as does a root of a

@@ -8,4 +8,7 @@
 
 mod laws;
 
-pub use laws::{a_bare_root_names_itself, held_by_a_pin_is_named, sample_is_of_it, sample_stays};
+pub use laws::{
+    a_bare_root_names_itself, a_pin_holds_its_sample, held_by_a_pin_is_named, sample_is_of_it,
+    sample_stays,
+};

@@ -8,3 +8,4 @@ pub mod Fills
 pub mod Seats
 pub mod Pinned
 pub mod Found
+pub mod ReadWords

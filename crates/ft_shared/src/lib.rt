@@ -14,6 +14,7 @@ mod pins;
 mod plays;
 mod pool;
 mod reader;
+mod reads;
 mod shared;
 mod table;
 mod writer;
@@ -29,5 +30,6 @@ pub use laws::{
 };
 pub use passes::ReaderPasses;
 pub use reader::{Held, ReaderPass};
+pub use reads::{a_history_agrees_with_fewer_reads, a_read_word_is_that_of_its_version};
 pub use shared::{OpenFault, Shared};
 pub use writer::WriterPass;

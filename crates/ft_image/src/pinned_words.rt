@@ -1,0 +1,64 @@
+//! The pin of a channel as a view of the sample that it holds.
+
+ghost use Rattle.std.specs.Prelude.{◌≡◌, IsSome};
+ghost use Rattle.std.proofs.Common.{◌∙◌, refl};
+ghost use Rattle.ft_shared.specs.Counts.{pin_of};
+ghost use Rattle.ft_image.specs.Passes.{MayShowPinned, HasReadOn, AreCounted};
+ghost use Rattle.ft_image.specs.PassLaws.{reads_nothing, reads_through, counted_through};
+
+use crate::view::WordView;
+use ft_shared::{
+    ReaderPass, Shared, a_history_agrees_with_fewer_reads, a_read_word_is_that_of_its_version,
+};
+use ft_types::Steps;
+use std::sync::ledger::Ledger;
+
+/// The words of a register by a pin that a reader's pass has on a channel. It shows what the pin
+/// holds of the version from which it was set, by any history that agrees with what the pass noted.
+/// A word of a segment that the pool hasn't is 0, and makes no step.
+#[derive(Drop)]
+pub struct PinnedWords<'a, 'b, 'c, L: Ledger> {
+    /// The register that the pass came from.
+    pub shared: &'a Shared,
+    /// The pass.
+    pub pass: &'b mut ReaderPass,
+    /// The channel of the pin.
+    pub channel: u8,
+    /// Counts one step a word.
+    pub steps: &'c mut Steps<L>,
+    ghost here: { pass.now.register ≡ shared.now },
+    ghost pinned: { IsSome (pin_of pass.now.notes channel) },
+}
+
+impl<'a, 'b, 'c, L: Ledger> WordView for PinnedWords<'a, 'b, 'c, L> {
+    ghost may_show = { λ v p s. MayShowPinned v.pass.now v.channel p s };
+
+    ghost work = { λ v. v.steps.now };
+
+    ghost same = { λ v w. (v.shared.now ≡ w.shared.now) × (v.channel ≡ w.channel)
+        × (v.pass.ghost_name ≡ w.pass.ghost_name) × (v.steps.ghost_name ≡ w.steps.ghost_name)
+        × HasReadOn v.pass.now w.pass.now
+        × AreCounted v.pass.now w.pass.now v.steps.now w.steps.now };
+
+    ghost same_here = { λ v. (refl, refl, refl, refl, reads_nothing v.pass.now, refl) };
+
+    ghost same_through = { λ u v w e f. (
+      e.0 ∙ f.0,
+      e.1 ∙ f.1,
+      e.2 ∙ f.2,
+      e.3 ∙ f.3,
+      reads_through u.pass.now v.pass.now w.pass.now e.4 f.4,
+      counted_through u.pass.now v.pass.now w.pass.now
+          u.steps.now v.steps.now w.steps.now e.5 f.5,
+    ) };
+
+    fn word(&mut self, seg: u16, at: u8) -> u64 {
+        a_history_agrees_with_fewer_reads();
+        a_read_word_is_that_of_its_version();
+        if seg >= self.shared.segments() {
+            return 0;
+        }
+        self.shared
+            .pinned_word(self.pass, self.channel, seg, at, self.steps)
+    }
+}

@@ -1,0 +1,45 @@
+//! The writer's pass as a view of the words last written.
+
+ghost use Rattle.std.specs.Prelude.{◌≡◌};
+ghost use Rattle.std.proofs.Common.{◌∙◌, refl};
+ghost use Rattle.ft_image.specs.Passes.{MayShowWritten, HasMadeSteps};
+ghost use Rattle.ft_image.specs.PassLaws.{steps_nothing, steps_through};
+
+use crate::view::WordView;
+use ft_shared::{Shared, WriterPass};
+
+/// The words of a register as the writer last wrote them. It shows each version that stands in
+/// them, as the current one does until one of its segments is filled. A word of a segment that the
+/// pool hasn't is 0, and makes no step. What it reads isn't counted.
+#[derive(Drop)]
+pub struct WriterWords<'a, 'b> {
+    /// The register that the pass came from.
+    pub shared: &'a Shared,
+    /// The writer's pass.
+    pub pass: &'b mut WriterPass,
+    ghost here: { pass.now.register ≡ shared.now },
+}
+
+impl<'a, 'b> WordView for WriterWords<'a, 'b> {
+    ghost may_show = { λ v p s. MayShowWritten v.pass.now p s };
+
+    ghost work = { λ v. 0 };
+
+    ghost same = { λ v w. (v.shared.now ≡ w.shared.now)
+        × (v.pass.ghost_name ≡ w.pass.ghost_name) × HasMadeSteps v.pass.now w.pass.now };
+
+    ghost same_here = { λ v. (refl, refl, steps_nothing v.pass.now) };
+
+    ghost same_through = { λ u v w e f. (
+      e.0 ∙ f.0,
+      e.1 ∙ f.1,
+      steps_through u.pass.now v.pass.now w.pass.now e.2 f.2,
+    ) };
+
+    fn word(&mut self, seg: u16, at: u8) -> u64 {
+        if seg >= self.shared.segments() {
+            return 0;
+        }
+        self.shared.read(self.pass, seg, at)
+    }
+}
