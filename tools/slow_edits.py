@@ -4,8 +4,9 @@
     slow_edits.py script SONG SCRIPT    prints each line's answer and each edit's, and then the song's canonical bytes
     slow_edits.py ledger LEDGER         prints the ledger as it is told in form 2, or its first line that can't stand there
 
-A line of a script is answered by `skip`, by `bad` and a place, or by `batch` with its time (`-` for none) and its edits.
-Each edit of it is then done by itself, on the song that those before it leave: `done`, or `fault` with its numbers.
+The lines of a script are what its LFs separate, so behind a last LF there is one more, without bytes. A line is answered by
+`skip`, by `bad` and a place, or by `batch` with its time (`-` for none) and its edits. Each edit of it is then done by itself, on the
+song that those before it leave, whatever became of them: `done`, or `fault` with its numbers.
 """
 import re
 import sys
@@ -522,15 +523,9 @@ def outcome(song, edit):
         return " ".join(["fault", *map(str, fault.args)])
 
 
-def lines_of(text):
-    """The lines of a file; bytes behind the last LF are one more, if there are some."""
-    lines = text.split(b"\n")
-    return lines[:-1] if lines[-1] == b"" else lines
-
-
 def answers(song, script):
     """The answers to each line and to each edit, which is done on the song."""
-    for line in lines_of(script):
+    for line in script.split(b"\n"):
         try:
             said = batch(line)
         except Wrong as wrong:
