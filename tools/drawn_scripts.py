@@ -241,6 +241,10 @@ class Speller(Editor):
             words + [self.of([";", "0", "#", "x"])],
         ])
 
+    def with_another_byte(self, line):
+        at = self.below(len(line) + 1)
+        return line[:at] + self.of(["", " ", "0", ";", "\n", "\t", chr(self.below(256))]) + line[at + self.below(2):]
+
     def edits_of(self, count, done):
         """The words of so many edits. Where they are done, each is for the song that those before it leave."""
         words = []
@@ -280,9 +284,12 @@ class Speller(Editor):
         words = self.edits_of(count, not damaged and count <= 16)
         if self.one_in(4):
             words = self.time() + words
-        if damaged:
+        by_a_byte = self.one_in(4)
+        if damaged and not by_a_byte:
             words = self.damaged(words)
         line = self.spelled(words)
+        if damaged and by_a_byte:
+            line = self.with_another_byte(line)
         return self.lengthened(line) if self.one_in(20) else line
 
 
@@ -304,6 +311,12 @@ def drawn_script(number):
 
 
 # ---- ledgers
+
+
+# numbers at the bounds of a ledger's
+BOUNDS = [str(number).encode() for number in (
+    0, 1, -1, 6, 10, 15, 16, 18, 19, 255, 256, 65535, 65536, 2**32 - 1, 2**32, -2**31 - 1, 2**63 - 1, 2**63, -2**63, -2**63 - 1,
+    2**64 - 1, 2**64)]
 
 
 class Clerk(Draws):
@@ -346,10 +359,10 @@ class Clerk(Draws):
         return lines + [("end", self.of(STATUSES[form]), ticks)]
 
     def damaged_word(self, word):
-        return self.of([word + b" ", b" " + word, b"0" + word, b"-" + word, b"+" + word, b"", word[:-1], word + b"0", word + b"\t", word + b"\r",
-                        word.upper(), b"-0", b"0", b"1", b"-1", b"6", b"10", b"15", b"16", b"18", b"19", b"255", b"256", b"65535", b"65536",
-                        b"4294967295", b"4294967296", b"-2147483649", b"9223372036854775807", b"9223372036854775808", b"-9223372036854775808",
-                        b"-9223372036854775809", b"18446744073709551615", b"18446744073709551616", b";", b"edit", b"worn", b"x"])
+        if self.one_in(2):
+            return self.of(BOUNDS)
+        return self.of([word + b" ", b" " + word, b"0" + word, b"-" + word, b"+" + word, b"", word[:-1], word + b"0", word + b"\t",
+                        word + b"\r", word.upper(), b"-0", b";", b"edit", b"worn", b"x"])
 
     def damaged_line(self, line):
         words = line.split(b" ")
@@ -379,7 +392,7 @@ class Clerk(Draws):
         elif kind == 11:
             lines.insert(at, self.of([b"", b"#", b"s 1 2", b"t 0 0 0 0 0 0", b"x" * 5000, b"end 0 0", b"h 3 limit 0"]))
         elif kind == 12:
-            lines[0] = self.of([b"xmstudio ledger 1", b"xmstudio ledger 2", b"xmstudio ledger 3", b"xmstudio ledger 02", b"xmstudio ledger"])
+            lines[0] = b"xmstudio ledger" + self.of([b" 1", b" 2", b" 3", b" 02", b""])
         text = b"".join(line + b"\n" for line in lines)
         place = self.below(len(text) + 1)
         if kind == 13:

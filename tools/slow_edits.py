@@ -17,8 +17,8 @@ from slow_writer import written
 LONGEST_LINE = 4096
 MOST_EDITS = 16
 MOST_FRAMES = 3_932_160
-U8, U16, U32 = (0, 2**8 - 1), (0, 2**16 - 1), (0, 2**32 - 1)
-I8, I16, I32 = (-2**7, 2**7 - 1), (-2**15, 2**15 - 1), (-2**31, 2**31 - 1)
+U8, U16, U32, U64 = (0, 2**8 - 1), (0, 2**16 - 1), (0, 2**32 - 1), (0, 2**64 - 1)
+I8, I16, I64 = (-2**7, 2**7 - 1), (-2**15, 2**15 - 1), (-2**63, 2**63 - 1)
 TITLE, NAME, FRAMES = "title", "name", "frames"
 
 BLOCK = [U8, U16, U8, U16, U8]
@@ -72,7 +72,8 @@ class Wrong(Exception):
 def number(word, least, most):
     if not re.fullmatch(rb"0|-?[1-9][0-9]*", word):
         raise Wrong
-    if len(word) > 12 or not least <= int(word) <= most:
+    # no range has a number of more than 20 digits
+    if len(word) > 20 or not least <= int(word) <= most:
         raise Wrong
     return int(word)
 
@@ -545,8 +546,11 @@ def answers(song, script):
 
 STATUSES = {1: [0, 5, 8, 9], 2: [0, 5, 8, 9, 10]}
 # the numbers of each fault; what a Range found may be below 0
-FAULT_NUMBERS = {NO_PATTERN: [U8], NO_ROW: [U32, U32], NO_CHANNEL: [U16], NO_ORDER: [U16], NO_INSTRUMENT: [U8],
-                 OUT_OF_RANGE: [(1, 18), I32], TOO_MANY: [(1, 5), U32], NO_SAMPLE: [U8, U8], CUT: [U32, (0, 2**64 - 1), U32]}
+FAULT_NUMBERS = {NO_PATTERN: [U8], NO_ROW: [U32, U16], NO_CHANNEL: [U16], NO_ORDER: [U16], NO_INSTRUMENT: [U8],
+                 OUT_OF_RANGE: [U8, I64], TOO_MANY: [U8, U32], NO_SAMPLE: [U8, U8], CUT: [U32, U64, U32]}
+# of which kind the line before one of this kind may be
+KINDS_BEFORE = {"xmstudio": [""], "play": ["xmstudio"], "c": ["play", "c"], "r": ["play", "c", "r"], "t": ["play", "c", "r", "t"],
+                "h": ["play", "c", "r", "t", "h"], "s": ["play", "c", "r", "t", "h"], "end": ["play", "c", "r", "t", "h", "s"]}
 ENDINGS = ["malformed", "failed", "limit", "memory"]
 
 
@@ -600,25 +604,22 @@ class Words:
 
 
 class LedgerReader:
-    """Reads a ledger line by line. `part` is what came before: each line says how far it goes."""
+    """Reads a ledger line by line."""
 
     def __init__(self):
         self.lines = []
         self.form = None
-        self.part = 0
+        self.kind = ""
         self.ticks = 0
         self.hand = -1
 
     def read(self, line):
         words = Words(line)
         kind = words.word().decode("latin-1")
-        # a kind, the parts behind which it may stand, and the part that it makes
-        parts = {"xmstudio": ([0], 1), "play": ([1], 2), "c": ([2], 2), "r": ([2, 3], 3), "t": ([2, 3], 3), "h": ([2, 3], 3),
-                 "s": ([2, 3], 4), "end": ([2, 3, 4], 5)}
-        if kind not in parts or self.part not in parts[kind][0]:
+        if kind not in KINDS_BEFORE or self.kind not in KINDS_BEFORE[kind]:
             raise Wrong
         self.lines.append((kind, *getattr(self, f"{kind}_line")(words)))
-        self.part = parts[kind][1]
+        self.kind = kind
 
     def xmstudio_line(self, words):
         exactly(words.word(), b"ledger")
@@ -677,7 +678,7 @@ def ledger(text):
             reader.read(line)
         except Wrong:
             raise Wrong(min(count, 2**32 - 1)) from None
-    if reader.part != 5 or rest:
+    if reader.kind != "end" or rest:
         raise Wrong(min(len(lines) + 1, 2**32 - 1))
     return reader.lines
 

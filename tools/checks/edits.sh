@@ -7,7 +7,7 @@
 # The program is proved and built first.
 set -u
 here=$(cd "$(dirname "$0")/../.." && pwd)
-log=$(cd "$here/crates/ft_edit_answers" && rt run -- data/ledger.txt 2>&1 </dev/null)
+log=$(cd "$here/crates/ft_edit_answers" && rt run -- data/first.xm data/script.txt 2>&1 </dev/null | tr -d '\000')
 # only a proved program is run
 if ! grep -q '^rt: running ' <<<"$log"; then
     echo "$log"

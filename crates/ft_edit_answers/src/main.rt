@@ -1,10 +1,12 @@
-//! Prints how scripts and ledgers are read and edits are done, to be compared with a slow reading of
-//! the rules by tools/checks/edits.sh.
+//! Prints what scripts and ledgers say and what edits do, to be compared with a slow reading of the
+//! pages by tools/checks/edits.sh.
 //!
-//! `ft_edit_answers SONG SCRIPT` prints what each line of a script says, then does each edit of it by
-//! itself on the song that those before it leave, whatever became of them, and prints how each went.
-//! Behind all lines come the canonical bytes of the song. `ft_edit_answers LEDGER` prints a ledger as
-//! it is told in form 2, or the number of its first line that can't stand there.
+//! `ft_edit_answers SONG SCRIPT` prints what each line of a script says. It does each edit by
+//! itself, on the song that those before it leave, whatever became of them, and prints how it went.
+//! Last it writes the canonical bytes of the song. Lines are what the LFs of the script separate.
+//!
+//! `ft_edit_answers LEDGER` prints a ledger as it is told in form 2, or its first line that can't
+//! stand there.
 #![tactic(auto)]
 
 ghost use Rattle.std.specs.Prelude.{◌≡◌};
