@@ -10,7 +10,7 @@ import sys
 
 from drawn_songs import Draws, drawn, envelope
 from slow_edits import (ARGUMENTS, ENDINGS, FAULT_NUMBERS, FRAMES, MOST_FRAMES, NAME, STATUSES, TITLE, U8, U16, U32, Fault, apply, bare,
-                        printed, printed_batch, printed_ledger)
+                        places, printed, printed_ledger)
 from slow_reader import EMPTY, Instrument, Pattern, Sample
 from slow_writer import written
 
@@ -68,8 +68,8 @@ class Editor(Draws):
 
     def at(self, count, most):
         """A place in so many, mostly."""
-        if self.one_in(25) or count < 1:
-            return max(0, min(most, self.of([0, count, count, count + 1, most])))
+        if self.one_in(20) or count < 1:
+            return max(0, min(most, self.of([0, count, count, count, count + 1, most])))
         return self.of([0, count - 1, self.below(count), self.below(count), self.below(count)])
 
     def most(self, least, most, beyond):
@@ -132,7 +132,16 @@ class Editor(Draws):
             kind = "block"
         elif name in FRAME_EDITS:
             kind = "frame"
-        return (name, *getattr(self, f"{kind}_values")(name))
+        values = getattr(self, f"{kind}_values")(name)
+        return (name, *(self.wronged(ARGUMENTS[name], values) if values and self.one_in(8) else values))
+
+    def wronged(self, kinds, values):
+        """The values, two of them at a bound of their type, so that more than one cause holds."""
+        for _ in range(2):
+            at = self.below(len(values))
+            if isinstance(kinds[at], tuple):
+                values[at] = self.of(kinds[at])
+        return values
 
     def plain_values(self, name):
         """The values of edits whose arguments are few."""
@@ -166,12 +175,32 @@ class Editor(Draws):
         p = self.pattern()
         values = [p, *self.block(p)]
         if name == "transpose":
-            values.append(self.of([-12, 12, 1, -1, self.signed(8), -128, 127]))
+            values.append(self.semitones(*values))
+        elif name == "copy" and self.one_in(2):
+            values = self.overlap(p)
         elif name == "copy":
             q = self.of([p, self.pattern()])
             _, _, _, h, w = values
             values += [q, self.at(max(1, self.rows(q) - h + 1), 65535), self.at(max(1, self.song.channels - w + 1), 255)]
         return values
+
+    def overlap(self, p):
+        """A copy to a block of the same pattern, a few rows and channels away."""
+        down, right = self.below(3), self.below(2)
+        rows, channels = max(1, self.rows(p) - down), max(1, self.song.channels - right)
+        r, c = self.below(rows), self.below(channels)
+        h, w = 1 + self.below(min(20, rows - r)), 1 + self.below(channels - c)
+        one, other = (r, c), (r + down, c + right)
+        return [p, *one, h, w, p, *other] if self.one_in(2) else [p, *other, h, w, p, *one]
+
+    def semitones(self, p, r, c, h, w):
+        """Some that bring a note of the block to a bound, or one over it; or others."""
+        cells = self.song.patterns[p].cells if p < len(self.song.patterns) else []
+        inside = [at for at in places(self.song, r, c, min(h, 256), min(w, 32)) if at < len(cells)]
+        notes = [cells[at][0] for at in inside if 1 <= cells[at][0] <= 96]
+        if notes and not self.one_in(3):
+            return self.of([0, 1, 96, 97]) - self.of(notes)
+        return self.of([-12, 12, 1, -1, self.signed(8), -128, 127])
 
     def smpname_values(self, _):
         return [*self.sample(), self.name(22)]
@@ -329,7 +358,9 @@ class Clerk(Draws):
         if kind == FRAMES:
             return [self.signed(16) for _ in range(self.of([1, 1 + self.below(8), 256]))]
         if kind in (TITLE, NAME):
-            return bytes(self.below(256) for _ in range(20 if kind == TITLE else 22))
+            size = 20 if kind == TITLE else 22
+            # now and then one is too short
+            return bytes(self.below(256) for _ in range(size - self.one_in(40)))
         return self.number(*kind)
 
     def edits(self, form):
@@ -349,6 +380,8 @@ class Clerk(Draws):
     def record(self, form):
         ticks = self.of([0, 1, self.below(6), self.below(30)])
         hands = sorted({self.number(*U8) for _ in range(self.below(5))})
+        if hands and self.one_in(12):
+            hands.append(hands[-1])  # which is one too many
         lines = [("xmstudio", form), ("play", *self.numbers(U32, U32, U16, U8))]
         lines += [("c", *self.numbers(U32, U8, U32), self.edits(form)) for _ in range(self.below(5))]
         lines += [("r", *self.numbers(U8, U32), self.cause(), self.edits(form)) for _ in range(self.below(5))]
@@ -361,8 +394,8 @@ class Clerk(Draws):
     def damaged_word(self, word):
         if self.one_in(2):
             return self.of(BOUNDS)
-        return self.of([word + b" ", b" " + word, b"0" + word, b"-" + word, b"+" + word, b"", word[:-1], word + b"0", word + b"\t",
-                        word + b"\r", word.upper(), b"-0", b";", b"edit", b"worn", b"x"])
+        return self.of([word + b" ", b" " + word, b"0" + word, b"-" + word, b"+" + word, b"", word[:-1], word[:-2], word + b"0",
+                        word + b"00", word + b"\t", word + b"\r", word.upper(), b"-0", b";", b"edit", b"worn", b"x"])
 
     def damaged_line(self, line):
         words = line.split(b" ")
@@ -386,7 +419,7 @@ class Clerk(Draws):
         elif kind == 8:
             del lines[at]
         elif kind == 9:
-            lines.insert(other, lines[at])
+            lines.insert(self.of([at, at, other]), lines[at])
         elif kind == 10:
             lines[at], lines[other] = lines[other], lines[at]
         elif kind == 11:
