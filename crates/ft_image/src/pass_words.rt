@@ -13,8 +13,7 @@ use ft_types::Steps;
 use std::sync::ledger::Ledger;
 
 /// The words of a register by a reader's pass that holds a version. It shows that version, by any
-/// history that agrees with what the pass noted. A word of a segment that the pool hasn't is 0, and
-/// makes no step.
+/// history that agrees with what the pass noted. A word of a segment that the pool hasn't is 0.
 #[derive(Drop)]
 pub struct PassWords<'a, 'b, 'c, L: Ledger> {
     /// The register that the pass came from.

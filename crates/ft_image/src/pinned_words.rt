@@ -15,7 +15,7 @@ use std::sync::ledger::Ledger;
 
 /// The words of a register by a pin that a reader's pass has on a channel. It shows what the pin
 /// holds of the version from which it was set, by any history that agrees with what the pass noted.
-/// A word of a segment that the pool hasn't is 0, and makes no step.
+/// A word of a segment that the pool hasn't is 0.
 #[derive(Drop)]
 pub struct PinnedWords<'a, 'b, 'c, L: Ledger> {
     /// The register that the pass came from.
