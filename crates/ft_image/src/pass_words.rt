@@ -1,7 +1,9 @@
 //! A reader's pass as a view of the version that it holds.
 
-ghost use Rattle.std.specs.Prelude.{◌≡◌, IsSome};
+ghost use Rattle.std.specs.Prelude.{◌≡◌, ◌≤◌, ◌+◌, ℕ, IsSome};
 ghost use Rattle.std.proofs.Common.{◌∙◌, refl};
+ghost use Rattle.ft_segments.specs.Packing.{word_at};
+ghost use Rattle.ft_segments.specs.Walk.{Placed};
 ghost use Rattle.ft_image.specs.Passes.{MayShowHeld, HasReadOn, AreCounted};
 ghost use Rattle.ft_image.specs.PassLaws.{reads_nothing, reads_through, counted_through};
 
@@ -13,8 +15,7 @@ use ft_types::Steps;
 use std::sync::ledger::Ledger;
 
 /// The words of a register by a reader's pass that holds a version. It shows that version, by any
-/// history that agrees with what the pass noted. A word of a segment that the pool hasn't is 0, and
-/// makes no step.
+/// history that agrees with what the pass noted. A word of a segment that the pool hasn't is 0.
 #[derive(Drop)]
 pub struct PassWords<'a, 'b, 'c, L: Ledger> {
     /// The register that the pass came from.
@@ -49,11 +50,32 @@ impl<'a, 'b, 'c, L: Ledger> WordView for PassWords<'a, 'b, 'c, L> {
     ) };
 
     fn word(&mut self, seg: u16, at: u8) -> u64 {
-        a_history_agrees_with_fewer_reads();
-        a_read_word_is_that_of_its_version();
-        if seg >= self.shared.segments() {
-            return 0;
-        }
-        self.shared.word(self.pass, seg, at, self.steps)
+        held_word(self.shared, self.pass, seg, at, self.steps)
     }
+}
+
+/// The word of a segment, and 0 without a step where the pool hasn't the segment.
+fn held_word<L: Ledger>(
+    shared: &Shared,
+    pass: &mut ReaderPass,
+    seg: u16,
+    at: u8,
+    steps: &mut Steps<L>,
+) -> u64
+    requires here { pass.old.register ≡ shared.now }
+    requires held { IsSome pass.old.notes.held }
+    ensures beyond { shared.now.sizes.segments ≤ seg
+        → (result ≡ 0) × (pass.new ≡ pass.old) × (steps.new ≡ steps.old) }
+    ensures narrows { (p : Placed) (s : ℕ) → MayShowHeld pass.new p s → MayShowHeld pass.old p s }
+    ensures answer { (p : Placed) → MayShowHeld pass.new p seg → result ≡ word_at p.pool seg at }
+    ensures on { HasReadOn pass.old pass.new }
+    ensures counted { AreCounted pass.old pass.new steps.old steps.new }
+    ensures work { (steps.old ≤ steps.new) × (steps.new ≤ steps.old + 1) }
+{
+    a_history_agrees_with_fewer_reads();
+    a_read_word_is_that_of_its_version();
+    if seg >= shared.segments() {
+        return 0;
+    }
+    shared.word(pass, seg, at, steps)
 }

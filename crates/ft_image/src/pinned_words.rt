@@ -1,7 +1,9 @@
 //! The pin of a channel as a view of the sample that it holds.
 
-ghost use Rattle.std.specs.Prelude.{◌≡◌, IsSome};
+ghost use Rattle.std.specs.Prelude.{◌≡◌, ◌≤◌, ◌+◌, ℕ, IsSome};
 ghost use Rattle.std.proofs.Common.{◌∙◌, refl};
+ghost use Rattle.ft_segments.specs.Packing.{word_at};
+ghost use Rattle.ft_segments.specs.Walk.{Placed};
 ghost use Rattle.ft_shared.specs.Counts.{pin_of};
 ghost use Rattle.ft_image.specs.Passes.{MayShowPinned, HasReadOn, AreCounted};
 ghost use Rattle.ft_image.specs.PassLaws.{reads_nothing, reads_through, counted_through};
@@ -15,7 +17,7 @@ use std::sync::ledger::Ledger;
 
 /// The words of a register by a pin that a reader's pass has on a channel. It shows what the pin
 /// holds of the version from which it was set, by any history that agrees with what the pass noted.
-/// A word of a segment that the pool hasn't is 0, and makes no step.
+/// A word of a segment that the pool hasn't is 0.
 #[derive(Drop)]
 pub struct PinnedWords<'a, 'b, 'c, L: Ledger> {
     /// The register that the pass came from.
@@ -53,12 +55,35 @@ impl<'a, 'b, 'c, L: Ledger> WordView for PinnedWords<'a, 'b, 'c, L> {
     ) };
 
     fn word(&mut self, seg: u16, at: u8) -> u64 {
-        a_history_agrees_with_fewer_reads();
-        a_read_word_is_that_of_its_version();
-        if seg >= self.shared.segments() {
-            return 0;
-        }
-        self.shared
-            .pinned_word(self.pass, self.channel, seg, at, self.steps)
+        pinned_word(self.shared, self.pass, self.channel, seg, at, self.steps)
     }
+}
+
+/// The word of a segment, and 0 without a step where the pool hasn't the segment.
+fn pinned_word<L: Ledger>(
+    shared: &Shared,
+    pass: &mut ReaderPass,
+    channel: u8,
+    seg: u16,
+    at: u8,
+    steps: &mut Steps<L>,
+) -> u64
+    requires here { pass.old.register ≡ shared.now }
+    requires pinned { IsSome (pin_of pass.old.notes channel) }
+    ensures beyond { shared.now.sizes.segments ≤ seg
+        → (result ≡ 0) × (pass.new ≡ pass.old) × (steps.new ≡ steps.old) }
+    ensures narrows { (p : Placed) (s : ℕ)
+        → MayShowPinned pass.new channel p s → MayShowPinned pass.old channel p s }
+    ensures answer { (p : Placed) → MayShowPinned pass.new channel p seg
+        → result ≡ word_at p.pool seg at }
+    ensures on { HasReadOn pass.old pass.new }
+    ensures counted { AreCounted pass.old pass.new steps.old steps.new }
+    ensures work { (steps.old ≤ steps.new) × (steps.new ≤ steps.old + 1) }
+{
+    a_history_agrees_with_fewer_reads();
+    a_read_word_is_that_of_its_version();
+    if seg >= shared.segments() {
+        return 0;
+    }
+    shared.pinned_word(pass, channel, seg, at, steps)
 }

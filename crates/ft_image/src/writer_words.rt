@@ -1,7 +1,9 @@
 //! The writer's pass as a view of the words last written.
 
-ghost use Rattle.std.specs.Prelude.{◌≡◌};
+ghost use Rattle.std.specs.Prelude.{◌≡◌, ◌≤◌};
 ghost use Rattle.std.proofs.Common.{◌∙◌, refl};
+ghost use Rattle.ft_segments.specs.Packing.{word_at};
+ghost use Rattle.ft_segments.specs.Walk.{Placed};
 ghost use Rattle.ft_image.specs.Passes.{MayShowWritten, HasMadeSteps};
 ghost use Rattle.ft_image.specs.PassLaws.{steps_nothing, steps_through};
 
@@ -10,7 +12,7 @@ use ft_shared::{Shared, WriterPass};
 
 /// The words of a register as the writer last wrote them. It shows each version that stands in
 /// them, as the current one does until one of its segments is filled. A word of a segment that the
-/// pool hasn't is 0, and makes no step. What it reads isn't counted.
+/// pool hasn't is 0. What it reads isn't counted.
 #[derive(Drop)]
 pub struct WriterWords<'a, 'b> {
     /// The register that the pass came from.
@@ -37,9 +39,20 @@ impl<'a, 'b> WordView for WriterWords<'a, 'b> {
     ) };
 
     fn word(&mut self, seg: u16, at: u8) -> u64 {
-        if seg >= self.shared.segments() {
-            return 0;
-        }
-        self.shared.read(self.pass, seg, at)
+        written_word(self.shared, self.pass, seg, at)
     }
+}
+
+/// The word of a segment, and 0 without a step where the pool hasn't the segment.
+fn written_word(shared: &Shared, pass: &mut WriterPass, seg: u16, at: u8) -> u64
+    requires here { pass.old.register ≡ shared.now }
+    ensures beyond { shared.now.sizes.segments ≤ seg → (result ≡ 0) × (pass.new ≡ pass.old) }
+    ensures answer { (p : Placed) → MayShowWritten pass.new p seg
+        → result ≡ word_at p.pool seg at }
+    ensures on { HasMadeSteps pass.old pass.new }
+{
+    if seg >= shared.segments() {
+        return 0;
+    }
+    shared.read(pass, seg, at)
 }
