@@ -1,0 +1,10 @@
+//! A song that is played from the words of a register.
+#![tactic(auto)]
+
+mod seat;
+mod songs;
+mod view;
+
+pub use seat::{KeptWord, KeptWords, Seat};
+pub use songs::{SongVersion, Songs};
+pub use view::PlayerView;
