@@ -1,6 +1,6 @@
 -- What each kind of step tells the seat that makes it: of the step, the seat before, the number
 -- found and the seat after.
-use Rattle.std.specs.Prelude.{◌≡◌, ◌≢◌, ℕ, ◌+◌, ◌<◌, ◌≤◌, true, IsNone}
+use Rattle.std.specs.Prelude.{◌≡◌, ◌≢◌, ℕ, ◌+◌, ◌<◌, ◌≤◌, true, IsNone, List, [], ◌∷◌, length, All}
 use Rattle.atomic_table.specs.Table.{Step, Allows}
 use Rattle.atomic_table.specs.Seated.{TableId}
 use Rattle.ft_shared.specs.declared.law.Opening.{Opening}
@@ -10,10 +10,10 @@ use Rattle.ft_shared.specs.declared.law.View.TheVariants.{Spent, Reader, Writer,
 use Rattle.ft_segments.specs.Packing.{word_at}
 use Rattle.ft_shared.specs.Layout.{current_at, leavers_at, pin_at, segment_at, version_in, slot_in, root_in, count_in}
 use Rattle.ft_shared.specs.Counts.{sum_below, pin_of}
-use Rattle.ft_shared.specs.History.{placed_at, HasVersion}
-use Rattle.ft_shared.specs.Account.{hold_of, account_of, slot_at, next_slot, is_free, new_notes, after_note, after_begin, after_scan, after_pin_scan, after_read, after_fill, after_clear, after_publish}
+use Rattle.ft_shared.specs.History.{placed_at, HasVersion, Agrees}
+use Rattle.ft_shared.specs.Account.{hold_of, account_of, slot_at, next_slot, is_free, new_notes, after_note, after_join, after_learning, after_resume, after_begin, after_scan, after_pin_scan, after_read, after_fill, after_clear, after_publish}
 use Rattle.ft_shared.specs.Register.{SeatView, RegisterRule, marks}
-use Rattle.ft_shared.specs.Pass.{note_look, note_take, note_leave, note_word, note_heard, pin_from, note_pin, note_unpin, note_pinned_word}
+use Rattle.ft_shared.specs.Pass.{note_look, note_take, note_leave, note_word, note_seen, note_heard, pin_from, note_pin, note_unpin, note_pinned_word}
 
 -- what a kind of step says of itself, the seat before, the number found and the seat after
 abbrev pub StepKind : Type 1
@@ -162,6 +162,17 @@ IsFill step before found after = (segment at : ℕ) → at < 256
     → step.word ≡ segment_at (account_of before.0).sizes segment at
     → after ≡ (Writer (after_fill (account_of before.0) segment at step.first), before.1)
 
+-- it learns that its history agrees with what each settled pass has noted; of these there are at
+-- most eight
+abbrev pub IsLearning : StepKind
+IsLearning step before found after =
+    (after ≡ (Writer (after_learning (account_of before.0)), before.1))
+    × (version_in found ≡ (account_of before.0).version)
+    × All (λ hold. Agrees (account_of before.0).history hold.notes)
+    (account_of before.0).settled
+    × (length (account_of before.0).settled ≤ 8)
+    × (step.word ≡ current_at)
+
 -- ---- a seat for a reader
 
 -- one more reader's pass is made
@@ -193,3 +204,26 @@ after_hear hold version = record hold { notes = note_heard hold.notes version }
 abbrev pub heard : View → View → View
 heard (Reader hold) (Told told) = Reader (after_hear hold told.version)
 heard view note = view
+
+-- ---- settled passes
+
+-- the writer's seat takes in that of a reader
+abbrev pub joined : View → View → View
+joined (Writer account) (Reader hold) = Writer (after_join account hold)
+joined view pass = view
+
+-- the writer's seat gives back that which it took in last
+abbrev pub after_giving_back : View → View
+after_giving_back (Writer account) = Writer (after_resume account)
+after_giving_back view = view
+
+abbrev pub resumed_hold : Hold → ℕ → Hold
+resumed_hold hold version = record hold { notes = note_seen hold.notes version }
+
+abbrev pub first_back : List Hold → ℕ → View
+first_back [] version = Spent
+first_back (hold ∷ holds) version = Reader (resumed_hold hold version)
+
+abbrev pub given_back : View → View
+given_back (Writer account) = first_back account.settled account.version
+given_back view = Spent

@@ -9,6 +9,7 @@ ghost use Rattle.ft_shared.specs.declared.law.View.TheVariants.{Writer};
 
 use crate::law::{Place, Slot};
 use crate::plays::{BeginScan, Clear, Publish, ScanSlot};
+use crate::reader::KeptPass;
 use crate::shared::Shared;
 use std::marker::Model;
 
@@ -20,6 +21,10 @@ pub struct WriterPass {
     pub(crate) version: u32,
     slot: u8,
     slots: [Slot; 10],
+    /// What is kept of the settled passes, the one that was settled first first.
+    pub(crate) settled: [KeptPass; 8],
+    /// How many passes are settled, 0 to 8.
+    pub(crate) many: u8,
 }
 
 impl Model for WriterPass {
@@ -41,7 +46,8 @@ impl WriterPass {
         requires version { ((account_of place.me.0).version ≡ version)
             × ((account_of place.me.0).slot ≡ 0) }
         requires slots { (account_of place.me.0).slots ≡ replicate 10 (new_slot version) }
-        requires none { (account_of place.me.0).begun ≡ false }
+        requires none { ((account_of place.me.0).begun ≡ false)
+            × ((account_of place.me.0).settled ≡ []) }
         ensures { result ≡ writer_at place.table_id (account_of place.me.0) }
     {
         let unused = Slot {
@@ -55,6 +61,8 @@ impl WriterPass {
             version,
             slot: 0,
             slots: [unused; 10],
+            settled: [KeptPass { slot: 0, number: 0 }; 8],
+            many: 0,
         }
     }
 }
