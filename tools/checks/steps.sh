@@ -15,7 +15,7 @@ COMMENT = re.compile(r"//[^\n]*")
 # What a caller of the table names: the table itself, its shared half, and its atomic calls.
 REACH = re.compile(
     r"\.\s*table\b|\bTable\b|\bpeek\b|\b(?:raw|compare_exchange|fetch_sub|fetch_and|fetch_or"
-    r"|fetch_xor|load_new_seat|swap_new_seat|join_seat|exchange)\b"
+    r"|fetch_xor|load_new_seat|swap_new_seat|exchange)\b"
 )
 TICK = re.compile(r"\btick\s*\(")
 CALL = re.compile(r"\bself\s*\.\s*table\b|\bTable\s*::")

@@ -1,6 +1,7 @@
 pub mod Sums
 pub mod Readers
 pub mod Writes
+pub mod Joins
 pub mod Publish
 pub mod Opens
 mod Segments

@@ -22,7 +22,7 @@ use Rattle.ft_shared.specs.declared.law.PinAnswer.{PinAnswer}
 use Rattle.ft_shared.specs.declared.law.Hold.{Hold}
 use Rattle.ft_shared.specs.declared.law.Account.{Account}
 use Rattle.ft_shared.specs.declared.law.View.{View}
-use Rattle.ft_shared.specs.declared.law.View.TheVariants.{Spent, Reader, Writer}
+use Rattle.ft_shared.specs.declared.law.View.TheVariants.{Spent, Reader, Writer, Told}
 use Rattle.ft_shared.specs.Layout.{current_word, pin_at, segment_at}
 use Rattle.ft_shared.specs.Counts.{bit, total, pass_sum, has_number, grip, grip_of, holders, IsBehind, pin_of, pin_word, pin_amount}
 use Rattle.ft_shared.specs.History.{placed_at, place_of, HasRead}
@@ -120,6 +120,7 @@ module _ (key : Opening) where
   view-small : (state : TableState) (rule : RegisterRule key state) (r c seat : ℕ) (view : View) → get_elem? state.views seat ≡ some view
       → pass_sum (pin_amount r c) view ≤ 65536 * pass_sum (has_number r) view
   view-small state rule r c seat Spent at = omega arith
+  view-small state rule r c seat (Told t) at = omega arith
   view-small state rule r c seat (Reader h) at = weighed (h.notes.number == r) (pin_word (pin_of h.notes c))
       (word-small rule.account h (rule.segments.kept seat (Reader h) h at refl) c (pin_of h.notes c) refl)
   view-small state rule r c seat (Writer e) at = at_most_index (pin_amount r c) (has_number r) e.settled (λ i d l.

@@ -17,7 +17,7 @@ use Rattle.ft_shared.specs.declared.law.Hold.{Hold}
 use Rattle.ft_shared.specs.declared.law.Slot.{Slot}
 use Rattle.ft_shared.specs.declared.law.Account.{Account}
 use Rattle.ft_shared.specs.declared.law.View.{View}
-use Rattle.ft_shared.specs.declared.law.View.TheVariants.{Spent, Reader, Writer}
+use Rattle.ft_shared.specs.declared.law.View.TheVariants.{Spent, Reader, Writer, Told}
 use Rattle.ft_shared.specs.Layout.{current_word, slot_in, root_in, count_in}
 use Rattle.ft_shared.specs.Counts.{bit, sum_below, pass_sum, one, has_number, grip, grip_of, holders, pin_amount}
 use Rattle.ft_shared.specs.History.{placed_at, IsReadable, Agrees, IsHistory}
@@ -313,6 +313,7 @@ module _ (key : Opening) where
       rest-of j Spent ne z f = tt
       rest-of j (Reader h) ne z f = stands_next rule.account k root (count_in (get_or state.words 0 0)) h z f
       rest-of j (Writer e) ne z f = absurd (ne (f.1 ∙ sym writes))
+      rest-of j (Told t) ne z f = record { sizes = f.sizes; past = let l = f.past in omega arith }
 
   pub publishes : (slots id k root : ℕ) (me : SeatView) → me.0 ≡ Writer (account_of me.0) → k < key.sizes.readers + 2
       → key.sizes.readers ≤ 8 → (slot_at (account_of me.0) k).free ≡ true

@@ -18,7 +18,7 @@ use Rattle.ft_shared.specs.declared.law.WordRead.{WordRead}
 use Rattle.ft_shared.specs.declared.law.Hold.{Hold}
 use Rattle.ft_shared.specs.declared.law.Account.{Account}
 use Rattle.ft_shared.specs.declared.law.View.{View}
-use Rattle.ft_shared.specs.declared.law.View.TheVariants.{Spent, Reader, Writer}
+use Rattle.ft_shared.specs.declared.law.View.TheVariants.{Spent, Reader, Writer, Told}
 use Rattle.ft_shared.specs.Layout.{current_word, pin_at, pool_at, segment_at, version_in, slot_in, root_in}
 use Rattle.ft_shared.specs.Counts.{bit, total, sum_below, pass_sum, one, has_number, grip, grip_of, holders, IsBehind, pin_word, pin_amount}
 use Rattle.ft_shared.specs.History.{placed_at, place_of, HasVersion, HasTakenVersion, HasRead}
@@ -89,6 +89,7 @@ module _ (key : Opening) where
   pub stands_behind : (state : TableState) (rule : RegisterRule key state) (seat : ℕ) (view : View) (hold : Hold)
       → get_elem? state.views seat ≡ some view → IsBehind view hold → Stands key rule.account hold
   stands_behind state rule seat Spent hold at behind = absurd behind
+  stands_behind state rule seat (Told t) hold at behind = absurd behind
   stands_behind state rule seat (Reader other) hold at behind = subst (Stands key rule.account) behind
       (rule.each_seat seat (Reader other) at)
   stands_behind state rule seat (Writer e) hold at behind =

@@ -156,6 +156,21 @@ module _ (sizes : Sizes) where
     kept = λ seat view hold at behind. kept_still a b hold zs hs ps fs (rule.kept seat view hold at behind);
   }
 
+  -- the seats have other views, behind which nothing else is held or pinned
+  pub segments_passes : (old views : List View) (a : Account)
+      → ((seat : ℕ) (view : View) (hold : Hold) → get_elem? views seat ≡ some view → IsBehind view hold → ArePinsScanned a hold)
+      → ((seat : ℕ) (view : View) (hold : Hold) → get_elem? views seat ≡ some view → IsBehind view hold → IsKept a hold)
+      → SegmentRule sizes old a → SegmentRule sizes views a
+  segments_passes old views a scanned kept rule = record {
+    filled = rule.filled;
+    current = rule.current;
+    borne = rule.borne;
+    answers = rule.answers;
+    order = rule.order;
+    scanned = scanned;
+    kept = kept;
+  }
+
   -- the writer's seat has the account
   pub segments_seat : (views : List View) (a b : Account) (id : ℕ) → get_elem? views id ≡ some (Writer a) → b.settled ≡ a.settled
       → SegmentRule sizes views b → SegmentRule sizes (set views id (Writer b)) b

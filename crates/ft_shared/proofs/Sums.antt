@@ -8,7 +8,7 @@ use lib.ListN.{get_elem?}
 use Rattle.ft_shared.specs.declared.law.TakenVersion.{TakenVersion}
 use Rattle.ft_shared.specs.declared.law.Hold.{Hold}
 use Rattle.ft_shared.specs.declared.law.View.{View}
-use Rattle.ft_shared.specs.declared.law.View.TheVariants.{Spent, Reader, Writer}
+use Rattle.ft_shared.specs.declared.law.View.TheVariants.{Spent, Reader, Writer, Told}
 use Rattle.ft_shared.specs.Layout.{current_word, version_in, slot_in, root_in, count_in}
 use Rattle.ft_shared.specs.Counts.{bit, total, sum_below, pass_sum, one, grip, grip_of, holders, IsBehind}
 use Rattle.ft_shared.specs.Register.{amount}
@@ -64,12 +64,14 @@ pub passes-le : (k : ℕ) (v : View) → pass_sum (grip_of k) v ≤ pass_sum one
 passes-le k Spent = omega arith
 passes-le k (Reader h) = grip-le k h.slot h.notes.held
 passes-le k (Writer a) = total-le (grip_of k) one (λ h. grip-le k h.slot h.notes.held) a.settled
+passes-le k (Told t) = omega arith
 
 -- what a pass behind a seat counts is part of what the seat counts
 pub behind-le : (f : Hold → ℕ) (v : View) (h : Hold) → IsBehind v h → f h ≤ pass_sum f v
 behind-le f Spent h b = absurd b
 behind-le f (Reader other) h b = let e : f other ≡ f h = ap f b in omega arith
 behind-le f (Writer a) h b = let e : f (get_or a.settled b.0 h) ≡ f h = ap f b.2 in let l = index-le f a.settled b.0 h b.1 in omega arith
+behind-le f (Told t) h b = absurd b
 
 module _ {A : Type 0} (f w : A → ℕ) where
   -- where nothing weighs, nothing counts that counts by its weight
@@ -112,9 +114,11 @@ module _ (f w : Hold → ℕ) (still : (h : Hold) → w h ≡ 0 → f h ≡ 0) w
   zero_pass Spent z = refl
   zero_pass (Reader h) z = still h z
   zero_pass (Writer a) z = zero_total f w still a.settled z
+  zero_pass (Told t) z = refl
 
   only_pass : (v : View) (h : Hold) → IsBehind v h → pass_sum w v ≤ 1 → 1 ≤ w h → pass_sum f v ≡ f h
   only_pass Spent h b most more = absurd b
+  only_pass (Told t) h b most more = absurd b
   only_pass (Reader other) h b most more = ap f b
   only_pass (Writer a) h b most more =
       let e : w (get_or a.settled b.0 h) ≡ w h = ap w b.2 in
@@ -231,6 +235,7 @@ passes-sum_below : (n : ℕ) (v : View) → sum_below (λ k. pass_sum (grip_of k
 passes-sum_below n Spent = let z = sum_below-zero (λ k. 0) n (λ k l. refl) in omega arith
 passes-sum_below n (Reader h) = grip-sum_below n h.slot h.notes.held
 passes-sum_below n (Writer a) = sum_below-total grip_of one n (λ h. grip-sum_below n h.slot h.notes.held) a.settled
+passes-sum_below n (Told t) = let z = sum_below-zero (λ k. 0) n (λ k l. refl) in omega arith
 
 -- the passes that hold a slot are at most the passes
 pub holding-sum_below : (n : ℕ) (vs : List View) → sum_below (λ k. holders k vs) n ≤ total (pass_sum one) vs

@@ -17,7 +17,7 @@ use Rattle.ft_shared.specs.declared.law.Hold.{Hold}
 use Rattle.ft_shared.specs.declared.law.Slot.{Slot}
 use Rattle.ft_shared.specs.declared.law.Account.{Account}
 use Rattle.ft_shared.specs.declared.law.View.{View}
-use Rattle.ft_shared.specs.declared.law.View.TheVariants.{Spent, Reader, Writer}
+use Rattle.ft_shared.specs.declared.law.View.TheVariants.{Spent, Reader, Writer, Told}
 use Rattle.ft_shared.specs.Layout.{current_word}
 use Rattle.ft_shared.specs.Counts.{total, sum_below, pass_sum, one, has_number, grip_of, holders, IsBehind, pin_word, pin_amount}
 use Rattle.ft_shared.specs.History.{HasVersion, HasTakenVersion, HasRead, Agrees}
@@ -77,6 +77,7 @@ module _ (key : Opening) where
   others state rule id writes b j Spent ne v ks hs f = tt
   others state rule id writes b j (Reader h) ne v ks hs f = stands_still rule.account b h v ks hs f
   others state rule id writes b j (Writer e) ne v ks hs f = absurd (ne (f.1 ∙ sym writes))
+  others state rule id writes b j (Told t) ne v ks hs f = record { sizes = f.sizes; past = let l = f.past in omega arith }
 
   -- the seats, where only the writer's account changes, in nothing that readers rest on
   pub seats_still : (state : TableState) (rule : RegisterRule key state) (id : ℕ) → id ≡ rule.writer → (b : Account)

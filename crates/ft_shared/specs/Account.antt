@@ -7,9 +7,10 @@ use Rattle.ft_shared.specs.declared.law.Notes.{Notes}
 use Rattle.ft_shared.specs.declared.law.Hold.{Hold}
 use Rattle.ft_shared.specs.declared.law.Slot.{Slot}
 use Rattle.ft_shared.specs.declared.law.Account.{Account}
+use Rattle.ft_shared.specs.declared.law.ToldVersion.{ToldVersion}
 use Rattle.ft_shared.specs.declared.law.WordStep.TheVariants.{Load, Store, Swap}
 use Rattle.ft_shared.specs.declared.law.View.{View}
-use Rattle.ft_shared.specs.declared.law.View.TheVariants.{Reader, Writer}
+use Rattle.ft_shared.specs.declared.law.View.TheVariants.{Reader, Writer, Told}
 use Rattle.ft_segments.specs.Walk.{sample_walk, sample_uses}
 use Rattle.ft_shared.specs.Layout.{current_at, leavers_at, pin_at, pool_at, segment_at}
 use Rattle.ft_shared.specs.History.{IsOfVersion}
@@ -95,6 +96,20 @@ account_or default _ = default
 -- what the writer behind a view knows
 abbrev pub account_of : View → Account
 account_of view = account_or (opening_account no_sizes 0 0 []) view
+
+abbrev pub told_or : ToldVersion → View → ToldVersion
+told_or default (Told told) = told
+told_or default _ = default
+
+-- what the note behind a view tells
+abbrev pub told_of : View → ToldVersion
+told_of view = told_or (record { sizes = no_sizes; version = 0 }) view
+
+-- ---- notes
+
+-- a note of the current version was made, by one load of CURRENT
+abbrev pub after_note : Account → Account
+after_note account = record account { steps = account.steps ++ Load current_at ∷ [] }
 
 -- ---- scans
 

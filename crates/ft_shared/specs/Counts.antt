@@ -6,7 +6,7 @@ use Rattle.ft_shared.specs.declared.law.Pin.{Pin}
 use Rattle.ft_shared.specs.declared.law.Notes.{Notes}
 use Rattle.ft_shared.specs.declared.law.Hold.{Hold}
 use Rattle.ft_shared.specs.declared.law.View.{View}
-use Rattle.ft_shared.specs.declared.law.View.TheVariants.{Spent, Reader, Writer}
+use Rattle.ft_shared.specs.declared.law.View.TheVariants.{Spent, Reader, Writer, Told}
 
 abbrev pub bit : Bool → ℕ
 bit test = if test then 1 else 0
@@ -26,12 +26,14 @@ abbrev pub pass_sum : (Hold → ℕ) → View → ℕ
 pass_sum amount Spent = 0
 pass_sum amount (Reader hold) = amount hold
 pass_sum amount (Writer account) = total amount account.settled
+pass_sum amount (Told told) = 0
 
 -- The pass is behind the seat: the writer's has the settled ones
 abbrev pub IsBehind : View → Hold → Type 0
 IsBehind Spent hold = ⊥
 IsBehind (Reader other) hold = other ≡ hold
 IsBehind (Writer account) hold = Contains account.settled hold
+IsBehind (Told told) hold = ⊥
 
 -- each pass counts 1
 abbrev pub one : Hold → ℕ

@@ -2,13 +2,15 @@
 use Rattle.std.specs.Prelude.{◌≡◌, ◌+◌, ◌≤◌, ◌<◌, [], length}
 use Rattle.ft_shared.specs.declared.law.Hold.{Hold}
 use Rattle.ft_shared.specs.declared.law.Account.{Account}
-use Rattle.ft_shared.specs.declared.law.View.TheVariants.{Reader, Writer}
+use Rattle.ft_shared.specs.declared.law.ToldVersion.{ToldVersion}
+use Rattle.ft_shared.specs.declared.law.View.TheVariants.{Reader, Writer, Told}
 use Rattle.ft_shared.specs.declared.reader.ReaderPass.TheInside.{Inside as ReaderInside}
 use Rattle.ft_shared.specs.declared.writer.WriterPass.TheInside.{Inside as WriterInside}
+use Rattle.ft_shared.specs.declared.notes.Note.TheInside.{Inside as NoteInside}
 use Rattle.ft_shared.specs.Counts.{sum_below}
-use Rattle.ft_shared.specs.Account.{hold_of, account_of, SlotsAreMet}
+use Rattle.ft_shared.specs.Account.{hold_of, account_of, told_of, SlotsAreMet}
 use Rattle.ft_shared.specs.Register.{marks}
-use Rattle.ft_shared.specs.Pass.{ReaderState, WriterState, reader_at, writer_at}
+use Rattle.ft_shared.specs.Pass.{ReaderState, WriterState, NoteState, reader_at, writer_at, note_at}
 
 -- what a reader's pass knows, by its seat
 abbrev pub hold_in : ReaderInside → Hold
@@ -42,3 +44,14 @@ pub record IsWriterPass (pass : WriterInside) : Type 0 where
   -- a scan of all slots found at most as many slots held as there are readers
   pub whole : SlotsAreMet (account_in pass).sizes (account_in pass)
       → sum_below (marks (account_in pass)) (pass.readers + 2) ≤ pass.readers
+
+-- what a note tells, by its seat
+abbrev pub told_in : NoteInside → ToldVersion
+told_in note = told_of note.place.me.0
+
+abbrev pub note_state : NoteInside → NoteState
+note_state note = note_at note.place.table_id (told_in note)
+
+pub record IsNote (note : NoteInside) : Type 0 where
+  pub seat : note.place.me ≡ (Told (told_in note), [])
+  pub version : (told_in note).version ≡ note.version

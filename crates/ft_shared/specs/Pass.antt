@@ -1,5 +1,5 @@
 -- What contracts see of a register and of its passes.
-use Rattle.std.specs.Prelude.{◌≡◌, ◌≢◌, ℕ, zero, suc, ◌+◌, ◌<◌, ◌≤◌, true, false, slice_set, List, [], ◌∷◌, ◌++◌, Option, Some, None}
+use Rattle.std.specs.Prelude.{◌≡◌, ◌≢◌, ℕ, zero, suc, ◌+◌, ◌<◌, ◌≤◌, max, true, false, slice_set, List, [], ◌∷◌, ◌++◌, Option, Some, None}
 use Rattle.atomic_table.specs.Seated.{TableId}
 use Rattle.ft_shared.specs.declared.law.Sizes.{Sizes}
 use Rattle.ft_shared.specs.declared.law.TakenVersion.{TakenVersion}
@@ -8,6 +8,7 @@ use Rattle.ft_shared.specs.declared.law.Pin.{Pin}
 use Rattle.ft_shared.specs.declared.law.Notes.{Notes}
 use Rattle.ft_shared.specs.declared.law.Hold.{Hold}
 use Rattle.ft_shared.specs.declared.law.Account.{Account}
+use Rattle.ft_shared.specs.declared.law.ToldVersion.{ToldVersion}
 use Rattle.ft_shared.specs.declared.law.WordStep.TheVariants.{Load, Store, Add}
 use Rattle.ft_shared.specs.Layout.{current_at, leavers_at, pin_at, segment_at}
 use Rattle.ft_shared.specs.Counts.{pin_of}
@@ -28,6 +29,11 @@ pub record WriterState : Type 0 where
   pub register : RegisterId
   pub account : Account
 
+-- a note of a version
+pub record NoteState : Type 0 where
+  pub register : RegisterId
+  pub version : ℕ
+
 -- the passes behind seats of a table
 abbrev pub reader_at : TableId → Hold → ReaderState
 reader_at table hold = record {
@@ -40,6 +46,13 @@ abbrev pub writer_at : TableId → Account → WriterState
 writer_at table account = record {
   register = record { table = table; sizes = account.sizes };
   account = account;
+}
+
+-- the note behind a seat of a table
+abbrev pub note_at : TableId → ToldVersion → NoteState
+note_at table told = record {
+  register = record { table = table; sizes = told.sizes };
+  version = told.version;
 }
 
 -- the writer's pass of a register that was just opened
@@ -137,6 +150,15 @@ note_leave notes slot = record notes {
   held = None;
   steps = notes.steps ++ Add (leavers_at slot) ∷ [];
 }
+
+-- no later look or take gives a version below this one
+abbrev pub note_seen : Notes → ℕ → Notes
+note_seen notes version = record notes { seen = max notes.seen version }
+
+-- a note of this version was heard, by one load of CURRENT
+abbrev pub note_heard : Notes → ℕ → Notes
+note_heard notes version =
+    record (note_seen notes version) { steps = notes.steps ++ Load current_at ∷ [] }
 
 -- A publish: it chose the first slot that was found free, and kept how many passes had taken the
 -- version before. It is one store to the leavers of that slot, and one swap of CURRENT.

@@ -6,14 +6,14 @@ use Rattle.atomic_table.specs.Seated.{TableId}
 use Rattle.ft_shared.specs.declared.law.Opening.{Opening}
 use Rattle.ft_shared.specs.declared.law.Hold.{Hold}
 use Rattle.ft_shared.specs.declared.law.View.{View}
-use Rattle.ft_shared.specs.declared.law.View.TheVariants.{Spent, Reader, Writer}
+use Rattle.ft_shared.specs.declared.law.View.TheVariants.{Spent, Reader, Writer, Told}
 use Rattle.ft_segments.specs.Packing.{word_at}
 use Rattle.ft_shared.specs.Layout.{current_at, leavers_at, pin_at, segment_at, version_in, slot_in, root_in, count_in}
 use Rattle.ft_shared.specs.Counts.{sum_below, pin_of}
 use Rattle.ft_shared.specs.History.{placed_at, HasVersion}
-use Rattle.ft_shared.specs.Account.{hold_of, account_of, slot_at, next_slot, is_free, new_notes, after_begin, after_scan, after_pin_scan, after_read, after_fill, after_clear, after_publish}
+use Rattle.ft_shared.specs.Account.{hold_of, account_of, slot_at, next_slot, is_free, new_notes, after_note, after_begin, after_scan, after_pin_scan, after_read, after_fill, after_clear, after_publish}
 use Rattle.ft_shared.specs.Register.{SeatView, RegisterRule, marks}
-use Rattle.ft_shared.specs.Pass.{note_look, note_take, note_leave, note_word, pin_from, note_pin, note_unpin, note_pinned_word}
+use Rattle.ft_shared.specs.Pass.{note_look, note_take, note_leave, note_word, note_heard, pin_from, note_pin, note_unpin, note_pinned_word}
 
 -- what a kind of step says of itself, the seat before, the number found and the seat after
 abbrev pub StepKind : Type 1
@@ -173,3 +173,23 @@ abbrev pub given_pass : View → View
 given_pass (Writer account) =
     Reader (record { notes = new_notes account.sizes account.given; slot = 0 })
 given_pass view = Spent
+
+-- ---- notes
+
+-- the writer's seat gives a note of the current version a seat
+abbrev pub after_making : View → View
+after_making (Writer account) = Writer (after_note account)
+after_making view = view
+
+abbrev pub made_note : View → View
+made_note (Writer account) =
+    Told (record { sizes = account.sizes; version = account.version })
+made_note view = Spent
+
+-- a reader's seat takes in that of a note
+abbrev pub after_hear : Hold → ℕ → Hold
+after_hear hold version = record hold { notes = note_heard hold.notes version }
+
+abbrev pub heard : View → View → View
+heard (Reader hold) (Told told) = Reader (after_hear hold told.version)
+heard view note = view

@@ -7,8 +7,9 @@ use Rattle.ft_shared.specs.declared.law.Opening.{Opening}
 use Rattle.ft_shared.specs.declared.law.TakenVersion.{TakenVersion}
 use Rattle.ft_shared.specs.declared.law.Hold.{Hold}
 use Rattle.ft_shared.specs.declared.law.Account.{Account}
+use Rattle.ft_shared.specs.declared.law.ToldVersion.{ToldVersion}
 use Rattle.ft_shared.specs.declared.law.View.{View}
-use Rattle.ft_shared.specs.declared.law.View.TheVariants.{Spent, Reader, Writer}
+use Rattle.ft_shared.specs.declared.law.View.TheVariants.{Spent, Reader, Writer, Told}
 use Rattle.ft_shared.specs.Layout.{current_at, current_word, leavers_at, pin_at, pool_at, word_count}
 use Rattle.ft_shared.specs.Counts.{bit, total, sum_below, pass_sum, one, has_number, holders, pin_amount}
 use Rattle.ft_shared.specs.History.{Agrees, IsHistory}
@@ -34,11 +35,17 @@ pub record Stands (key : Opening) (account : Account) (hold : Hold) : Type 0 whe
       → (hold.slot < key.sizes.readers + 2) × ((slot_at account hold.slot).version ≡ taken.version)
   pub agrees : Agrees account.history hold.notes
 
+-- What holds of each note: it tells no version above the current one
+pub record IsTold (key : Opening) (account : Account) (told : ToldVersion) : Type 0 where
+  pub sizes : told.sizes ≡ key.sizes
+  pub past : told.version ≤ account.version
+
 -- Which view a seat may have: there is one writer, whose account this is
 abbrev pub Fits : Opening → Account → ℕ → ℕ → View → Type 0
 Fits key account writer seat Spent = Unit {0}
 Fits key account writer seat (Reader hold) = Stands key account hold
 Fits key account writer seat (Writer other) = (other ≡ account) × (seat ≡ writer)
+Fits key account writer seat (Told told) = IsTold key account told
 
 abbrev pub amount : Bool → Bool → Bool → ℕ → ℕ
 amount current free met holding =

@@ -116,6 +116,13 @@ pub struct Hold {
     pub slot: u64,
 }
 
+/// What a note tells: a version that was current when the note was made.
+pub struct ToldVersion {
+    pub sizes: Sizes,
+    /// The version's number, 0 to 2^32 - 1.
+    pub version: u64,
+}
+
 /// What the writer knows of a slot.
 #[derive(Clone, Copy)]
 pub struct Slot {
@@ -170,6 +177,7 @@ pub(crate) enum View {
     Spent,
     Reader(Hold),
     Writer(Account),
+    Told(ToldVersion),
 }
 
 pub(crate) struct Law;

@@ -8,6 +8,7 @@
 
 mod law;
 mod laws;
+mod notes;
 mod open;
 mod passes;
 mod pins;
@@ -20,14 +21,15 @@ mod table;
 mod writer;
 
 pub use law::{
-    Account, Hold, Notes, Pin, PinAnswer, PlacedVersion, Sizes, Slot, TakenVersion, WordRead,
-    WordStep,
+    Account, Hold, Notes, Pin, PinAnswer, PlacedVersion, Sizes, Slot, TakenVersion, ToldVersion,
+    WordRead, WordStep,
 };
 pub use laws::{
     a_held_segment_is_as_placed, a_longer_history_agrees, a_take_or_a_pin_adds_nothing_unfound,
     a_version_stands_at_its_number, a_whole_scan_finds_each_held_segment,
     the_history_agrees_with_each_pass,
 };
+pub use notes::Note;
 pub use passes::ReaderPasses;
 pub use reader::{Held, ReaderPass};
 pub use reads::{a_history_agrees_with_fewer_reads, a_read_word_is_that_of_its_version};

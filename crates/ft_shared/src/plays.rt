@@ -1,10 +1,11 @@
 //! What each kind of step tells the seat that makes it.
 ghost use Rattle.std.specs.Prelude.{ℕ};
-ghost use Rattle.ft_shared.specs.Plays.{IsLook, IsTake, IsLeave, IsWordRead, IsPin, IsUnpin, IsPinnedRead, IsScanBegin, IsSlotScan, IsPinScan, IsPoolRead, IsFill, IsClear, IsPublish, after_give, given_pass};
+ghost use Rattle.ft_shared.specs.Plays.{IsLook, IsTake, IsLeave, IsWordRead, IsPin, IsUnpin, IsPinnedRead, IsScanBegin, IsSlotScan, IsPinScan, IsPoolRead, IsFill, IsClear, IsPublish, after_give, given_pass, after_making, made_note, heard};
+ghost use Rattle.ft_shared.specs.declared.law.View.TheVariants.{Spent};
 
 use crate::law::View;
 use crate::table::{Adds, Loads, Stores, Swaps};
-use atomic_table::{Play, Split};
+use atomic_table::{Join, Play, Split};
 use std::marker::{Brand, PhantomData};
 
 pub(crate) struct Look;
@@ -85,6 +86,24 @@ impl Split<View> for Give {
     ghost left = { after_give };
 
     ghost right = { given_pass };
+}
+
+/// The writer's seat gives a note of the current version a seat.
+pub(crate) struct MakeNote;
+
+impl Split<View> for MakeNote {
+    ghost left = { after_making };
+
+    ghost right = { made_note };
+}
+
+/// A reader's seat takes in that of a note.
+pub(crate) struct HearNote;
+
+impl Join<View> for HearNote {
+    ghost both = { heard };
+
+    ghost spent = { Spent };
 }
 
 pub(crate) struct BeginScan;

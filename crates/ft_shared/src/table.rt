@@ -5,14 +5,14 @@
 //! notes it in the pass: so a pass has noted each step that was made with it.
 ghost use Rattle.std.specs.Prelude.{◌≡◌, ℕ, ◌+◌, ◌%◌, ◌^◌, ◌<◌, [], length, IfOk};
 ghost use mathlib.Core.Option.{none};
-ghost use Rattle.atomic_table.specs.Table.{step, opening, Splits};
+ghost use Rattle.atomic_table.specs.Table.{step, opening, Splits, Joins};
 ghost use Rattle.ft_shared.specs.Account.{first_account};
 ghost use Rattle.ft_shared.specs.Register.{RegisterRule};
 ghost use Rattle.ft_shared.specs.Plays.{MayStep};
 ghost use Rattle.ft_shared.specs.declared.law.View.TheVariants.{Writer};
 
 use crate::law::{Law, Opening, Place, View};
-use atomic_table::{Play, Split, Table};
+use atomic_table::{Join, Play, Split, Table};
 use ft_types::Steps;
 use std::alloc::{AllocError, Global};
 use std::sync::ledger::Ledger;
@@ -67,6 +67,21 @@ impl WordTable {
             × (result.me ≡ (M.right place.old.me.0, [])) }
     {
         self.table.shared.split_seat::<M>(place)
+    }
+
+    /// Joins another seat to a seat, which takes in its view.
+    pub(crate) fn join_seat<M: Join<View>>(&self, place: &mut Place, other: Place)
+        requires { (place.old.table_id ≡ self.now.table.shared.table_id)
+            × (other.table_id ≡ self.now.table.shared.table_id)
+            × (other.me.1 ≡ [])
+            × (0 < self.now.table.shared.table_id.words)
+            × Joins (RegisterRule self.now.table.shared.key) place.old.id place.old.me.0
+            other.id other.me.0 (M.both place.old.me.0 other.me.0) M.spent }
+        ensures { (place.new.table_id ≡ place.old.table_id)
+            × (place.new.id ≡ place.old.id)
+            × (place.new.me ≡ (M.both place.old.me.0 other.me.0, place.old.me.1)) }
+    {
+        self.table.shared.join_seat::<M>(place, other);
     }
 
     /// One load of the word, which is counted.

@@ -17,7 +17,7 @@ use std::marker::Model;
 pub struct WriterPass {
     pub(crate) place: Place,
     readers: u8,
-    version: u32,
+    pub(crate) version: u32,
     slot: u8,
     slots: [Slot; 10],
 }
