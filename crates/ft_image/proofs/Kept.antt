@@ -114,7 +114,7 @@ stands_kept p m new same stands =
       };
     }
 
-pub shows_kept : (p : Placed) (m : Module) (new : List ℕ) → Shows p m → length p.pool ≤ 16777216 → length new ≡ length p.pool
+pub shows_kept : (p : Placed) (m : Module) (new : List ℕ) → Shows p m → length p.pool ≤ 16777216 → length p.pool ≤ length new
     → ((s : ℕ) → IsOf p s → SameWords p.pool new s)
     → (walk new p.root ≡ ids_of p) × Shows (record { root = p.root; pool = new }) m
 shows_kept p m new shows few long same =
@@ -122,12 +122,14 @@ shows_kept p m new shows few long same =
     let n = length p.pool / 256 in
     let is : walk new p.root ≡ ids_of p
     = ap (λ (r : ℕ). walk new r) (sym (root_walk p)) ∙ walks new m (ids_of p) n shows.valid (omega arith) shows.sound stands in
-    let segments : n ≡ length new / 256 = omega arith in (
+    let more : n ≤ length new / 256 = omega arith in (
       is,
       record {
         valid = shows.valid;
-        sound = subst (λ (ids : SongIds). IsSound (length new / 256) ids) (sym is) (subst (λ (k : ℕ). IsSound k
-            (ids_of p)) segments shows.sound);
+        sound = subst (λ (ids : SongIds). IsSound (length new / 256) ids) (sym is) (record {
+          once = shows.sound.once;
+          within = λ s one. let lt = shows.sound.within s one in omega arith;
+        });
         stands = subst (λ (ids : SongIds). Stands new m ids) (sym is) stands;
       },
     )

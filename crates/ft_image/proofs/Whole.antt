@@ -10,10 +10,14 @@ use Rattle.ft_image.specs.Laid.{song_laid}
 use Rattle.ft_image.proofs.Sums.{laid_sound}
 use Rattle.ft_image.proofs.Walks.{walks}
 
+pub laid_walks : (pool : List ℕ) (m : Module) → IsValid m → blocks_of m ≤ 65535
+    → Stands pool m (song_laid m) → walk pool 0 ≡ song_laid m
+laid_walks pool m valid few stands = walks pool m (song_laid m) (blocks_of m) valid (omega arith) (laid_sound m) stands
+
 pub laid_shows : (pool : List ℕ) (m : Module) → IsValid m → blocks_of m ≤ 65535 → length pool ≡ 256 * blocks_of m
     → Stands pool m (song_laid m) → Shows (record { root = 0; pool = pool }) m
 laid_shows pool m valid few long stands =
-    let is : walk pool 0 ≡ song_laid m = walks pool m (song_laid m) (blocks_of m) valid (omega arith) (laid_sound m) stands in
+    let is : walk pool 0 ≡ song_laid m = laid_walks pool m valid few stands in
     let segments : blocks_of m ≡ length pool / 256 = omega arith in
     record {
       valid = valid;

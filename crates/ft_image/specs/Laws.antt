@@ -14,12 +14,12 @@ WalkIsThere =
     → IsValid song → segments ≤ 65536 → IsSound segments ids → Stands pool song ids
     → walk pool ids.root ≡ ids
 
--- a version that shows a song shows it still where words change in other segments alone, and its
--- walk finds the same ids; the pool has at most 65,536 segments
+-- a version that shows a song shows it still where words change in other segments alone, or are
+-- added behind, and its walk finds the same ids; the pool had at most 65,536 segments
 abbrev pub ShownStays : Type 0
 ShownStays =
     (placed : Placed) (song : Module) (pool : List ℕ)
-    → Shows placed song → length placed.pool ≤ 16777216 → length pool ≡ length placed.pool
+    → Shows placed song → length placed.pool ≤ 16777216 → length placed.pool ≤ length pool
     → ((segment : ℕ) → IsOf placed segment → SameWords placed.pool pool segment)
     → (walk pool placed.root ≡ ids_of placed)
     × Shows (record { root = placed.root; pool = pool }) song

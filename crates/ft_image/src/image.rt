@@ -3,7 +3,9 @@
 ghost use Rattle.std.specs.Prelude.{◌≡◌, ◌≤◌, ◌*◌, List, length, IfOk};
 ghost use Rattle.ft_types.specs.Valid.{IsValid};
 ghost use Rattle.ft_types.specs.Blocks.{blocks_of};
+ghost use Rattle.ft_segments.specs.Walk.{walk};
 ghost use Rattle.ft_image.specs.Shown.{Shows};
+ghost use Rattle.ft_image.specs.Laid.{song_laid};
 
 use crate::song_placing::place_song;
 use ft_types::{Module, NoMemory, blocks};
@@ -51,6 +53,7 @@ pub fn place(alloc: Global, m: &Module) -> Result<Image, NoMemory>
     requires few { blocks_of m.now ≤ 65535 }
     ensures size { IfOk result (λ image. length image ≡ 256 * blocks_of m.now) }
     ensures shows { IfOk result (λ image. Shows (record { root = 0; pool = image }) m.now) }
+    ensures laid { IfOk result (λ image. walk image 0 ≡ song_laid m.now) }
 {
     let size = blocks(m) as usize * 256;
     let mut words = vec![in alloc; 0u64; size]?;

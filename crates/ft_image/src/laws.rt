@@ -14,7 +14,8 @@ pub fn walk_is_there()
     ensures { WalkIsThere }
 {}
 
-/// Where words change outside of a version's segments alone, the version shows what it showed.
+/// Where words change outside of a version's segments alone, or are added behind, the version shows
+/// what it showed.
 pub fn shown_stays()
     ensures { ShownStays }
 {}

@@ -1,0 +1,132 @@
+//! The desk of a register.
+
+ghost use Rattle.std.specs.Prelude.{◌≡◌, ℕ, ◌≤◌, ◌<◌, None, IfOk, IfErr};
+ghost use Rattle.std.specs.Result.{IsErrOf};
+ghost use Rattle.ft_types.specs.Valid.{IsValid};
+ghost use Rattle.ft_types.specs.Blocks.{blocks_of};
+ghost use Rattle.ft_shared.specs.Pass.{fresh_passes};
+ghost use Rattle.ft_shared.specs.declared.shared.OpenFault.TheVariants.{PoolSmall, NoMemory};
+ghost use Rattle.ft_image.specs.Laid.{song_laid};
+ghost use Rattle.ft_desk.specs.Desk.{IsDesk, IsOpened, desk_of};
+ghost use Rattle.ft_desk.specs.Parts.{parts_of, opening_parts, part_of};
+
+use ft_image::{place, shown_stays};
+use ft_shared::{OpenFault, ReaderPasses, Shared, WriterPass};
+use ft_types::{Journal, Module, blocks};
+use std::alloc::Global;
+use std::marker::Model;
+use std::snapshot::Snapshot;
+
+/// The desk of a register: the writer's pass, and the journal of what was committed and refused.
+/// Contracts see both, and the song and the version with which it was opened.
+#[derive(Drop)]
+pub struct Desk {
+    pass: WriterPass,
+    journal: Journal,
+    /// The current version.
+    version: u32,
+    opening: Snapshot<Module>,
+    first: Snapshot<u32>,
+}
+
+impl Model for Desk {
+    ghost use Rattle.std.specs.Prelude.{◌≡◌};
+    ghost use Rattle.ft_desk.specs.Desk.{DeskState, IsDesk, desk_of};
+
+    ghost Value = { DeskState };
+
+    ghost view = { λ desk. desk_of desk.pass desk.journal desk.opening.value desk.first.value };
+
+    ghost invariant = { λ desk. (desk.pass.account.version ≡ desk.version)
+        × IsDesk (desk_of desk.pass desk.journal desk.opening.value desk.first.value) };
+}
+
+impl Desk {
+    /// Opens a register of `segments` segments for 1 to 8 readers, with the song as the version
+    /// `version`, and its desk. The song must be valid.
+    ///
+    /// `PoolSmall` comes exactly where the blocks of the song are more than the segments, which it
+    /// tells as what is needed. After a refusal nothing was made.
+    pub fn open(
+        alloc: Global,
+        m: &Module,
+        segments: u16,
+        readers: u8,
+        version: u32,
+    ) -> Result<(Shared, Desk, ReaderPasses), OpenFault>
+        requires valid { IsValid m.now }
+        requires readers { (1 ≤ readers) × (readers ≤ 8) }
+        ensures small { segments < blocks_of m.now
+            → IsErrOf result (PoolSmall (blocks_of m.now) segments) }
+        ensures memory { blocks_of m.now ≤ segments
+            → IfErr result (λ fault. fault ≡ NoMemory) }
+        ensures sizes { IfOk result (λ made. made.0.sizes ≡ record {
+          segments = segments;
+          readers = readers;
+          channels = m.now.channels;
+        }) }
+        ensures passes { IfOk result (λ made. made.2 ≡ fresh_passes made.0 readers) }
+        ensures desk { IfOk result (λ made. IsOpened made.0 m.now version made.1) }
+        ensures parts { IfOk result (λ made.
+            parts_of made.1 ≡ opening_parts segments version (song_laid m.now)) }
+        ensures others { IfOk result (λ made. (segment : ℕ) → blocks_of m.now ≤ segment
+            → part_of (song_laid m.now) segment ≡ None) }
+    {
+        let need = blocks(m);
+        if need > u32::from(segments) {
+            return Err(OpenFault::PoolSmall { need, segments });
+        }
+        let Ok(image) = place(alloc, m) else {
+            return Err(OpenFault::NoMemory);
+        };
+        let (shared, pass, passes) = Shared::open(
+            alloc,
+            segments,
+            readers,
+            m.channels,
+            version,
+            image.root(),
+            image.words(),
+        )?;
+        shown_stays();
+        let desk = Desk::on(pass, Journal::new(alloc), m, version);
+        Ok((shared, desk, passes))
+    }
+
+    fn on(pass: WriterPass, journal: Journal, m: &Module, version: u32) -> Desk
+        requires desk { IsDesk (desk_of pass journal m.now version) }
+        requires version { pass.account.version ≡ version }
+        ensures { result ≡ desk_of pass journal m.now version }
+    {
+        Desk {
+            pass,
+            journal,
+            version,
+            opening: Snapshot::of(m),
+            first: Snapshot::of(&version),
+        }
+    }
+
+    /// What holds of every desk: the journal is lawful from the opening song and version, the
+    /// versions of the history are those that were committed, and each of them shows the song at
+    /// it. It does nothing.
+    pub fn history_law(&self)
+        ensures { IsDesk self.now }
+    {
+        let _ = &self.journal;
+    }
+
+    /// The current version: that of the last entry, or the opening one where there is none.
+    pub fn current(&self) -> u32
+        ensures { result ≡ self.now.writer.account.version }
+    {
+        self.version
+    }
+
+    /// What was committed and refused.
+    pub fn journal(&self) -> &Journal
+        ensures { result.now ≡ self.now.journal }
+    {
+        &self.journal
+    }
+}
