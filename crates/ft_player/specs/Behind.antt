@@ -29,6 +29,10 @@ pub record Stands (songs : Songs) (pass : ReaderState) : Type 0 where
   pub agrees : Agrees (history_of songs) pass.notes
   pub shown : All (IsShown pass.register.sizes) songs.versions
 
+-- a pass holds this version, with this root
+abbrev pub Holds : ReaderState → ℕ → ℕ → Type 0
+Holds pass number root = pass.notes.held ≡ Some (record { version = number; root = root })
+
 -- ---- what is shown by it
 
 -- on a version, with these seats: each keeps the sample of its own version

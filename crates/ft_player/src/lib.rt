@@ -1,6 +1,8 @@
 //! A song that is played from the words of a register.
 #![tactic(auto)]
 
+mod ranges;
+mod reading;
 mod seat;
 mod songs;
 mod view;

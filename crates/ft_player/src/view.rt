@@ -2,7 +2,7 @@
 
 ghost use Rattle.std.specs.Prelude.{◌≡◌, ℕ, Some, None, length, get_or, is_some, map};
 ghost use Rattle.ft_player.specs.Seats.{head_in, pin_in, words_in};
-ghost use Rattle.ft_player.specs.Behind.{Stands, AreSeated, shown_by, HasPlayedOn};
+ghost use Rattle.ft_player.specs.Behind.{Holds, Stands, AreSeated, shown_by, HasPlayedOn};
 
 use crate::seat::Seat;
 use arrayvec::ArrayVec;
@@ -30,7 +30,7 @@ pub struct PlayerView<'a, 'b, 'c, 'd, L: Ledger> {
     /// The segment of its root.
     pub root: u16,
     ghost here: { pass.now.register ≡ shared.now },
-    ghost held: { pass.now.notes.held ≡ Some (record { version = version; root = root }) },
+    ghost held: { Holds pass.now version root },
     ghost many: { length seats.now.items ≡ shared.now.sizes.channels },
     ghost pins: { pass.now.notes.pins ≡ map pin_in seats.now.items },
     ghost seated: { AreSeated pass.now seats.now.items },
