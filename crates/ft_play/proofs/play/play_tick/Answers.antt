@@ -96,6 +96,16 @@ returns-clause-exact g c = λ x d lt.
     c.tick_state-at.ensures.range.ascend inside (c.tick_state-at.ensures.keeps.exact x d inside)
     ∙ ap (sounds_on d) (sym c.mix_front.ensures.voices)
 
+pub returns-clause-few_voices : goal.returns-clause-few_voices
+returns-clause-few_voices g c =
+    let song = c.tick_state-at.new.song in
+    omega (
+      arith,
+      ap (λ (l : List Voice). length l) c.copy_voices.ensures,
+      few_voices 0 song.used song.voices.items (omega arith) c.tick_state-at.ensures.range.ascend,
+      c.tick_state-at.ensures.used,
+    )
+
 pub returns-clause-work : goal.returns-clause-work
 returns-clause-work g c =
     let song = c.tick_state-at.new.song in
