@@ -1,4 +1,4 @@
-use Rattle.std.proofs.Common.{rules, ◌≡◌, ◌<◌, ℕ, sym, ap, subst, ◌∙◌}
+use Rattle.std.proofs.Common.{rules, ◌<◌, ℕ, sym, ap, subst, ◌∙◌}
 use Rattle.ft_types.specs.Valid.{IsValidCell}
 use Rattle.ft_shared.specs.Pass.{ReaderState, RegisterId}
 use Rattle.ft_player.specs.Songs.{song_at}
