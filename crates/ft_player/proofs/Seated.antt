@@ -151,7 +151,9 @@ pub set_seated : (songs : Songs) (seats : List (Option Seat)) (c d : ℕ) (seat 
     → IsSeated songs seat → IsSeated songs (get_or seats d None) → IsSeated songs (get_or (set seats c seat) d None)
 set_seated songs seats c d seat inside here there =
     elim (cases_eq d c) [
-      | inl e ↦ subst (IsSeated songs) (sym (ap (λ (k : ℕ). get_or (set seats c seat) k None) e ∙ get_or-set_same seats c seat None inside)) here
+      | inl e ↦
+          subst (IsSeated songs)
+          (sym (ap (λ (k : ℕ). get_or (set seats c seat) k None) e ∙ get_or-set_same seats c seat None inside)) here
       | inr ne ↦ subst (IsSeated songs) (sym (get_or-set_other seats c d seat None ne)) there
     ]
 

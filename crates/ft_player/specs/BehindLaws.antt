@@ -21,7 +21,8 @@ use Rattle.ft_player.specs.Behind.{IsShown, Stands, AreSeated, HasPlayedOn, afte
 
 -- ---- versions by their numbers
 
-picked : (b : Bool) (v : SongVersion) (placed : PlacedVersion) (o : Option SongVersion) (p : Option PlacedVersion)
+picked : (b : Bool) (v : SongVersion) (placed : PlacedVersion) (o : Option SongVersion)
+    (p : Option PlacedVersion)
     → (if b then Some v.placed else p) ≡ Some placed
     → (p ≡ Some placed → (x : SongVersion) × (o ≡ Some x) × (x.placed ≡ placed))
     → (x : SongVersion) × ((if b then Some v else o) ≡ Some x) × (x.placed ≡ placed)
@@ -43,11 +44,13 @@ kept_of true v x o P e here rest = subst P (same_Some v x e) here
 kept_of false v x o P e here rest = rest e
 
 -- what holds of all versions holds of that of a number
-pub each_version : (P : SongVersion → Type 0) (versions : List SongVersion) (number : ℕ) (x : SongVersion)
+pub each_version : (P : SongVersion → Type 0) (versions : List SongVersion) (number : ℕ)
+    (x : SongVersion)
     → All P versions → version_in versions number ≡ Some x → P x
 each_version P [] number x all e = absurd (none-some x e)
 each_version P (v ∷ versions) number x all e =
-    kept_of (v.placed.version == number) v x (version_in versions number) P e (all 0 v (omega arith))
+    kept_of (v.placed.version == number) v x (version_in versions number) P e
+    (all 0 v (omega arith))
     (each_version P versions number x (All-tail P v versions all))
 
 -- the version that a pass holds is one that is shown
@@ -125,7 +128,8 @@ pub seat_of : (o : Option Seat) (h : SampleHead) → head_in o ≡ Some h
 seat_of None h e = absurd (none-some h e)
 seat_of (Some seat) h e = (seat, refl, same_Some seat.head h e)
 
-pub of_head : (songs : Songs) (pass : ReaderState) (seats : List (Option Seat)) (c : ℕ) (h : SampleHead)
+pub of_head : (songs : Songs) (pass : ReaderState) (seats : List (Option Seat)) (c : ℕ)
+    (h : SampleHead)
     → AreSeated pass seats → Stands songs pass → head_in (get_or seats c None) ≡ Some h
     → head_of_owned (get_or (map (owned_by songs) seats) c None) ≡ Some h
 of_head songs pass seats c h seated stands e =

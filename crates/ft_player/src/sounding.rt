@@ -18,8 +18,8 @@ use ft_shared::{ReaderPass, Shared};
 use ft_types::{SampleHead, Steps};
 use std::sync::ledger::Ledger;
 
-/// The seat of the sample that a note, from 0, of an instrument, from 1, begins in the version that a
-/// pass holds. None where there is no such instrument or sample, or the sample has no frames.
+/// The seat of the sample that a note, from 0, of an instrument, from 1, begins in the version that
+/// a pass holds. None where there is no such instrument or sample, or the sample has no frames.
 pub fn begun_seat<L: Ledger>(
     shared: &Shared,
     pass: &mut ReaderPass,
@@ -79,8 +79,8 @@ pub fn head_of(seat: Option<Seat>) -> Option<SampleHead>
     }
 }
 
-/// Sets the pin of a channel to the root of a seat's sample, from the version that the pass holds, or
-/// takes it away. One step.
+/// Sets the pin of a channel to the root of a seat's sample, from the version that the pass holds,
+/// or takes it away. One step.
 fn set_pin<L: Ledger>(
     shared: &Shared,
     pass: &mut ReaderPass,

@@ -14,5 +14,6 @@ returns-clause-seated g c = λ songs stands here.
     ∙ get_or-set_same seats channel c.ask_one.new.seat None c.requires.channel in
     subst (IsSeated songs) (sym at) (c.ask_one.ensures.seated songs stands
     (subst (IsSeated songs)
-    (sym (found seats c.as_mut_slice.result.now c.from.result channel _ None c.as_mut_slice.ensures.value c.from.ensures c.requires.channel))
+    (sym (found seats c.as_mut_slice.result.now c.from.result channel _ None
+    c.as_mut_slice.ensures.value c.from.ensures c.requires.channel))
     here))

@@ -32,7 +32,8 @@ returns-clause-value g c = λ songs stands seated.
     let back = to_z-of_z w16 c.frame_in.result low ∙ frame in
     let ranged = subst (λ (z : ℤ). FitsSigned (width_of seat.head.wide) z) (sym back) fits in
     let narrow : FitsSigned w16 c.ranged_frame.result = search rules in
-    to_z-of_z w16 c.ranged_frame.result narrow ∙ c.ranged_frame.ensures.same ranged ∙ back ∙ sym (ap (λ (o : Option Owned). frame_of o place) s.is)
+    to_z-of_z w16 c.ranged_frame.result narrow ∙ c.ranged_frame.ensures.same ranged ∙ back
+    ∙ sym (ap (λ (o : Option Owned). frame_of o place) s.is)
 
 pub returns-clause-seated : goal.returns-clause-seated
 returns-clause-seated g c = λ songs stands seated.

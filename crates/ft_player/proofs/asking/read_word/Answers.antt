@@ -12,7 +12,8 @@ returns-clause-word g c = λ songs stands seated in_body.
     let new = c.frame_word-value.new.view.pass.now in
     let now : Stands songs new = search (rules, stands) in
     let p = pinned_sample c.a_pinned_sample_may_be_shown.ensures songs a.pass.now new a.channel
-    c.frame_word-value.new.view.channel seat c.frame_word-value.ensures.same.4 c.frame_word-value.ensures.same.1 c.requires.pinned now seated in
+    c.frame_word-value.new.view.channel seat c.frame_word-value.ensures.same.4
+    c.frame_word-value.ensures.same.1 c.requires.pinned now seated in
     let inside : a.place < length p.sample.frames = subst (λ (n : ℕ). a.place < n) p.many c.requires.inside in
     let word : 4 * (a.place / 4) < length p.sample.frames = omega (arith, inside) in record {
       value = c.frame_word-value.ensures.answer (place_at songs seat.version) (song_at songs seat.version) seat.root p.sample

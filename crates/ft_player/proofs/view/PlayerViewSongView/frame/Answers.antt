@@ -18,7 +18,8 @@ invariant_of-self g c =
     let old = c.args.self.now in
     let seats = old.seats.now.items in
     let channel = c.args.channel in
-    let inside : channel < length seats = subst (λ (n : ℕ). c.args.channel < n) (length-map seats (is_some {T = Seat})) c.requires.channel in
+    let inside : channel < length seats
+    = subst (λ (n : ℕ). c.args.channel < n) (length-map seats (is_some {T = Seat})) c.requires.channel in
     let is = c.ask.ensures.on.is in
     let on = played_read old.pass.now c.ask.new.pass c.ask.ensures.on in
     let words = c.ask.ensures.rest.0 in record {
@@ -64,14 +65,16 @@ returns-clause-keeps g c = λ d h e.
     let seats = c.args.self.now.seats.now.items in
     sym (head_at c.ask.new.seats.items d)
     ∙ ap (λ (l : List (Option SampleHead)). get_or l d None)
-    (same_at head_in c.ask.ensures.rest.0 seats c.ask.new.seats.items c.args.channel c.ask.ensures.rest.1 (reworded_head c.ask.ensures.rest.0))
+    (same_at head_in c.ask.ensures.rest.0 seats c.ask.new.seats.items c.args.channel c.ask.ensures.rest.1
+    (reworded_head c.ask.ensures.rest.0))
     ∙ head_at seats d ∙ e
 
 pub returns-clause-words : goal.returns-clause-words
 returns-clause-words g c =
     let seats = c.args.self.now.seats.now.items in
     let channel = c.args.channel in
-    let inside : channel < length seats = subst (λ (n : ℕ). c.args.channel < n) (length-map seats (is_some {T = Seat})) c.requires.channel in
+    let inside : channel < length seats
+    = subst (λ (n : ℕ). c.args.channel < n) (length-map seats (is_some {T = Seat})) c.requires.channel in
     let new = reworded c.ask.ensures.rest.0 (get_or seats channel None) in
     let at = ap (λ (l : List (Option Seat)). get_or l channel None) c.ask.ensures.rest.1
     ∙ get_or-set_same seats channel new None inside in

@@ -17,7 +17,8 @@ invariant_of-self g c =
     let old = c.args.self.now in
     let seats = old.seats.now.items in
     let channel = c.args.channel in
-    let inside : channel < length seats = subst (λ (n : ℕ). c.args.channel < n) (length-map seats (is_some {T = Seat})) c.requires.channel in
+    let inside : channel < length seats
+    = subst (λ (n : ℕ). c.args.channel < n) (length-map seats (is_some {T = Seat})) c.requires.channel in
     let seat = c.begun_seat-seat.result in
     let mid = c.begun_seat-seat.new.pass in
     let read = c.begun_seat-seat.ensures.on.is in
@@ -76,7 +77,8 @@ returns-clause-keeps g c = λ d h ne e.
 pub returns-clause-began : goal.returns-clause-began
 returns-clause-began g c =
     let seats = c.args.self.now.seats.now.items in
-    let inside : c.args.channel < length seats = subst (λ (n : ℕ). c.args.channel < n) (length-map seats (is_some {T = Seat})) c.requires.channel in
+    let inside : c.args.channel < length seats
+    = subst (λ (n : ℕ). c.args.channel < n) (length-map seats (is_some {T = Seat})) c.requires.channel in
     subst (λ (o : Option SampleHead). IfSome o (λ h. head_in (get_or c.sit.new.seats.items c.args.channel None) ≡ Some h))
     (sym c.head_of.ensures)
     (subst (λ (l : List (Option Seat)). IfSome (head_in c.begun_seat-seat.result)
