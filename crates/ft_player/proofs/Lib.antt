@@ -4,3 +4,8 @@ mod Played
 mod Ranged
 mod Refills
 mod Seated
+mod Bounded
+mod Closing
+mod Opened
+mod Ordered
+mod Renewing
