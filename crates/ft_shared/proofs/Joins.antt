@@ -23,6 +23,7 @@ use Rattle.ft_shared.specs.Register.{TableState, SeatView, Stands, Fits, Registe
 use Rattle.ft_shared.specs.Plays.{after_making, made_note, after_hear, heard, IsLearning, joined, after_giving_back, resumed_hold, first_back, given_back}
 use Rattle.ft_shared.proofs.Sums.{total-set, total-append, at-le}
 use Rattle.ft_shared.proofs.Segments.{is_there, segments_still, segments_passes}
+use Rattle.ft_shared.proofs.Exact.{total-one}
 use Rattle.ft_shared.proofs.Readers.{fewer, version-now}
 use Rattle.ft_shared.proofs.Writes.{stands_still, seats_still, sum_still, scan_at}
 
@@ -59,10 +60,6 @@ contains-cons x l y (suc n, less, is) = inr (n, omega arith, is)
 
 contains-more : {A : Type 0} (x : A) (l : List A) (y : A) → Contains l y → Contains (x ∷ l) y
 contains-more x l y c = let less = c.1 in (suc c.0, omega arith, c.2)
-
-total-one : (l : List Hold) → total one l ≡ length l
-total-one [] = refl
-total-one (h ∷ l) = let r = total-one l in omega arith
 
 none-last : (a : Account) → a.settled ≡ [] → IsSome (last_settled a) → ⊥
 none-last a has more = no (sym more ∙ ap (λ (l : List Hold). is_there (slice_get l 0)) has)
