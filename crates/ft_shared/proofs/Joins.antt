@@ -7,6 +7,7 @@ use lib.ListN.{get_elem?}
 use lib.Seq.{set-get_or}
 use Rattle.atomic_table.specs.Table.{step, keeps, Allows, Splits, Joins}
 use Rattle.atomic_table.proofs.Lists.{at_set, at_snoc, set_else}
+use Rattle.ft_shared.specs.declared.law.Sizes.{Sizes}
 use Rattle.ft_shared.specs.declared.law.Opening.{Opening}
 use Rattle.ft_shared.specs.declared.law.WordStep.{WordStep}
 use Rattle.ft_shared.specs.declared.law.Hold.{Hold}
@@ -17,7 +18,7 @@ use Rattle.ft_shared.specs.declared.law.View.TheVariants.{Spent, Reader, Writer,
 use Rattle.ft_shared.specs.Layout.{current_word, version_in}
 use Rattle.ft_shared.specs.Counts.{total, pass_sum, one, has_number, grip_of, holders, IsBehind, pin_amount}
 use Rattle.ft_shared.specs.Account.{hold_of, account_of, told_of, after_note, after_join, after_learning, last_settled}
-use Rattle.ft_shared.specs.History.{Agrees}
+use Rattle.ft_shared.specs.History.{Agrees, AreSound}
 use Rattle.ft_shared.specs.Segments.{IsKept, ArePinsScanned}
 use Rattle.ft_shared.specs.Register.{TableState, SeatView, Stands, Fits, RegisterRule}
 use Rattle.ft_shared.specs.Plays.{after_making, made_note, after_hear, heard, IsLearning, joined, after_giving_back, resumed_hold, first_back, given_back}
@@ -312,6 +313,8 @@ module _ (key : Opening) where
               (λ i x l. (rule.settled i x l).agrees),
           few,
           refl,
+          subst (λ (z : Account). AreSound z.sizes.segments z.history) (sym same.0)
+              (subst (λ (z : Sizes). AreSound z.segments rule.account.history) (sym rule.told) rule.segments.sound),
         ),
       )
 

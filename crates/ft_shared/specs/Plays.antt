@@ -10,7 +10,7 @@ use Rattle.ft_shared.specs.declared.law.View.TheVariants.{Spent, Reader, Writer,
 use Rattle.ft_segments.specs.Packing.{word_at}
 use Rattle.ft_shared.specs.Layout.{current_at, leavers_at, pin_at, segment_at, version_in, slot_in, root_in, count_in}
 use Rattle.ft_shared.specs.Counts.{sum_below, pin_of, pin_word}
-use Rattle.ft_shared.specs.History.{placed_at, HasVersion, Agrees}
+use Rattle.ft_shared.specs.History.{placed_at, HasVersion, Agrees, AreSound}
 use Rattle.ft_shared.specs.Account.{hold_of, account_of, slot_at, next_slot, is_free, answer_of, AreAllSettled, IsHeldSlot, IsBorne, IsSettledReader, new_notes, after_note, after_join, after_learning, after_resume, after_begin, after_scan, after_pin_scan, after_read, after_fill, after_clear, after_publish}
 use Rattle.ft_shared.specs.Register.{SeatView, RegisterRule, marks}
 use Rattle.ft_shared.specs.Pass.{note_look, note_take, note_leave, note_word, note_seen, note_heard, pin_from, note_pin, note_unpin, note_pinned_word}
@@ -173,8 +173,8 @@ IsFill step before found after = (segment at : ℕ) → at < 256
     → step.word ≡ segment_at (account_of before.0).sizes segment at
     → after ≡ (Writer (after_fill (account_of before.0) segment at step.first), before.1)
 
--- it learns that its history agrees with what each settled pass has noted; of these there are at
--- most eight
+-- it learns that its history is sound, and agrees with what each settled pass has noted; of these
+-- there are at most eight
 abbrev pub IsLearning : StepKind
 IsLearning step before found after =
     (after ≡ (Writer (after_learning (account_of before.0)), before.1))
@@ -183,6 +183,7 @@ IsLearning step before found after =
     (account_of before.0).settled
     × (length (account_of before.0).settled ≤ 8)
     × (step.word ≡ current_at)
+    × AreSound (account_of before.0).sizes.segments (account_of before.0).history
 
 -- ---- a seat for a reader
 
