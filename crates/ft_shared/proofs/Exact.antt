@@ -69,7 +69,8 @@ module _ (key : Opening) where
   settled-all state rule id at all f =
       let n : rule.account.sizes.readers ≡ key.sizes.readers = ap (λ (z : Sizes). z.readers) rule.told in
       let c = rule.count in let o = total-one rule.account.settled in
-      all_at (pass_sum f) (pass_sum one) (zero_pass f one (λ h z. absurd (omega arith))) state.views id (Writer rule.account) at (omega arith)
+      all_at (pass_sum f) (pass_sum one) (zero_pass f one (λ h z. absurd (omega arith))) state.views id (Writer rule.account) at
+      (omega arith)
 
   -- a slot is answered that is current or that a settled pass holds
   pub slot_exact : (state : TableState) (rule : RegisterRule key state) (id : ℕ) → get_elem? state.views id ≡ some (Writer rule.account)

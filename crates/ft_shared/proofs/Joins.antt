@@ -200,7 +200,8 @@ module _ (key : Opening) where
       } in
       regrouped state rule a.settled a.steps (set mid other Spent)
       (λ f still. let x = total-set (pass_sum f) state.views id (Reader h) (Reader h') at in
-      let y = total-set (pass_sum f) mid other (Told t) Spent there in let z : f h' ≡ f h = still h h'.notes.seen h'.notes.steps in omega arith)
+      let y = total-set (pass_sum f) mid other (Told t) Spent there in
+      let z : f h' ≡ f h = still h h'.notes.seen h'.notes.steps in omega arith)
       (λ hold s. ⊎_elim (λ (e : (s.seat ≡ other) × (Spent ≡ s.view)). absurd (subst (λ (v : View). IsBehind v hold) (sym e.1) s.behind))
       (λ (e : (s.seat ≢ other) × (get_elem? mid s.seat ≡ some s.view)). ⊎_elim
       (λ (u : (s.seat ≡ id) × (Reader h' ≡ s.view)). record {
@@ -286,7 +287,8 @@ module _ (key : Opening) where
       let e : Account = account_of me.0 in
       let at' : get_elem? state.views id ≡ some (Writer e) = at ∙ ap some is in
       let same : (e ≡ rule.account) × (id ≡ rule.writer) = rule.each_seat id (Writer e) at' in
-      let now : version_in (get_or state.words 0 0) ≡ e.version = version-now key state rule ∙ ap (λ (z : Account). z.version) (sym same.0) in
+      let now : version_in (get_or state.words 0 0) ≡ e.version = version-now key state rule
+      ∙ ap (λ (z : Account). z.version) (sym same.0) in
       let few : length e.settled ≤ 8 = let x = at-le (pass_sum one) state.views id (Writer e) at' in let y = rule.count in
       let z = rule.few in let n = total-one e.settled in omega arith in (
         Writer (after_learning e),

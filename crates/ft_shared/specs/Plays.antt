@@ -109,8 +109,9 @@ IsScanBegin step before found after =
     × (step.word ≡ current_at)
 
 -- the slot's version is in the history, a slot that was found free before is found free again, and
--- a whole scan finds at most as many slots held as there are readers; the versions of settled passes
--- are those of their slots, and while all are settled a slot is answered that is current or held
+-- a whole scan finds at most as many slots held as there are readers; the versions of settled
+-- passes are those of their slots, and while all are settled a slot is answered that is current or
+-- held
 abbrev pub IsSlotScan : StepKind
 IsSlotScan step before found after =
     (after ≡ (Writer (after_scan (account_of before.0) found), before.1))
@@ -148,8 +149,8 @@ IsPublish step before found after =
     × IsNone (placed_at (account_of before.0).history ((account_of before.0).version + 1))
     × (step.word ≡ current_at)
 
--- the word that was found is 0, or a root segment + 1, and that of the reader's pin where the reader
--- is settled
+-- the word that was found is 0, or a root segment + 1, and that of the reader's pin where the
+-- reader is settled
 abbrev pub IsPinScan : StepKind
 IsPinScan step before found after = (reader channel : ℕ)
     → channel < (account_of before.0).sizes.channels
