@@ -10,14 +10,14 @@ ghost use Rattle.ft_shared.specs.declared.law.PlacedVersion.{PlacedVersion};
 ghost use Rattle.ft_shared.specs.declared.law.TakenVersion.{TakenVersion};
 ghost use Rattle.ft_shared.specs.Account.{after_fill};
 ghost use Rattle.ft_shared.specs.Counts.{pin_of};
-ghost use Rattle.ft_shared.specs.History.{placed_at, place_of, Agrees};
+ghost use Rattle.ft_shared.specs.History.{placed_at, place_of, Agrees, AreSound};
 ghost use Rattle.ft_shared.specs.Pass.{ReaderState, WriterState};
 ghost use Rattle.ft_image.specs.Shown.{Shows};
 ghost use Rattle.ft_image.specs.Read.{MayShowAll, MayShowSample, IsRootOf};
 ghost use Rattle.ft_image.specs.Passes.{IsAmong, MayShowHeld, MayShowPinned, StandsWritten, MayShowWritten, HasReadOn};
 
 use ft_segments::a_pin_holds_its_sample;
-use ft_shared::a_history_agrees_with_fewer_reads;
+use ft_shared::{a_history_agrees_with_fewer_reads, each_version_is_sound};
 
 /// A history that agrees with the notes of a pass agreed with them before the pass read on.
 pub fn a_history_agreed_before()
@@ -25,6 +25,15 @@ pub fn a_history_agreed_before()
         → Agrees history new.notes → Agrees history old.notes }
 {
     a_history_agrees_with_fewer_reads();
+}
+
+/// The segments of each version of a sound history are among the pool's.
+pub fn a_sound_version_is_among()
+    ensures { (history : List PlacedVersion) (segments number : ℕ) (placed : PlacedVersion)
+        → AreSound segments history → placed_at history number ≡ Some placed
+        → IsAmong segments (place_of placed) }
+{
+    each_version_is_sound();
 }
 
 /// In a history that agrees with the notes, the view of a pass may show the version that the pass

@@ -2,3 +2,4 @@ pub mod Samples
 pub mod Pins
 pub mod Named
 pub mod Bare
+pub mod Words

@@ -37,6 +37,14 @@ pub fn a_pin_holds_its_sample()
         → PinHolds placed root segment }
 {}
 
+/// A walk reads nothing of a pool but the words of its segments: where all words are the same, the
+/// walk finds the same ids.
+pub fn a_walk_reads_words_alone()
+    ensures { (old new : List ℕ) (root : ℕ)
+        → ((segment at : ℕ) → word_at new segment at ≡ word_at old segment at)
+        → walk new root ≡ walk old root }
+{}
+
 /// A root of a song without patterns and instruments names itself alone, as does a root of a
 /// sample without frames.
 pub fn a_bare_root_names_itself()

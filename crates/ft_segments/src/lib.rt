@@ -9,6 +9,6 @@
 mod laws;
 
 pub use laws::{
-    a_bare_root_names_itself, a_pin_holds_its_sample, held_by_a_pin_is_named, sample_is_of_it,
-    sample_stays,
+    a_bare_root_names_itself, a_pin_holds_its_sample, a_walk_reads_words_alone,
+    held_by_a_pin_is_named, sample_is_of_it, sample_stays,
 };

@@ -7,6 +7,7 @@ use lib.ListN.{get_elem?}
 use lib.Seq.{set-get_or}
 use Rattle.atomic_table.specs.Table.{step, keeps, Allows, Splits, Joins}
 use Rattle.atomic_table.proofs.Lists.{at_set, at_snoc, set_else}
+use Rattle.ft_shared.specs.declared.law.Sizes.{Sizes}
 use Rattle.ft_shared.specs.declared.law.Opening.{Opening}
 use Rattle.ft_shared.specs.declared.law.WordStep.{WordStep}
 use Rattle.ft_shared.specs.declared.law.Hold.{Hold}
@@ -17,12 +18,13 @@ use Rattle.ft_shared.specs.declared.law.View.TheVariants.{Spent, Reader, Writer,
 use Rattle.ft_shared.specs.Layout.{current_word, version_in}
 use Rattle.ft_shared.specs.Counts.{total, pass_sum, one, has_number, grip_of, holders, IsBehind, pin_amount}
 use Rattle.ft_shared.specs.Account.{hold_of, account_of, told_of, after_note, after_join, after_learning, last_settled}
-use Rattle.ft_shared.specs.History.{Agrees}
+use Rattle.ft_shared.specs.History.{Agrees, AreSound}
 use Rattle.ft_shared.specs.Segments.{IsKept, ArePinsScanned}
 use Rattle.ft_shared.specs.Register.{TableState, SeatView, Stands, Fits, RegisterRule}
 use Rattle.ft_shared.specs.Plays.{after_making, made_note, after_hear, heard, IsLearning, joined, after_giving_back, resumed_hold, first_back, given_back}
 use Rattle.ft_shared.proofs.Sums.{total-set, total-append, at-le}
 use Rattle.ft_shared.proofs.Segments.{is_there, segments_still, segments_passes}
+use Rattle.ft_shared.proofs.Exact.{total-one}
 use Rattle.ft_shared.proofs.Readers.{fewer, version-now}
 use Rattle.ft_shared.proofs.Writes.{stands_still, seats_still, sum_still, scan_at}
 
@@ -59,10 +61,6 @@ contains-cons x l y (suc n, less, is) = inr (n, omega arith, is)
 
 contains-more : {A : Type 0} (x : A) (l : List A) (y : A) → Contains l y → Contains (x ∷ l) y
 contains-more x l y c = let less = c.1 in (suc c.0, omega arith, c.2)
-
-total-one : (l : List Hold) → total one l ≡ length l
-total-one [] = refl
-total-one (h ∷ l) = let r = total-one l in omega arith
 
 none-last : (a : Account) → a.settled ≡ [] → IsSome (last_settled a) → ⊥
 none-last a has more = no (sym more ∙ ap (λ (l : List Hold). is_there (slice_get l 0)) has)
@@ -202,7 +200,8 @@ module _ (key : Opening) where
       } in
       regrouped state rule a.settled a.steps (set mid other Spent)
       (λ f still. let x = total-set (pass_sum f) state.views id (Reader h) (Reader h') at in
-      let y = total-set (pass_sum f) mid other (Told t) Spent there in let z : f h' ≡ f h = still h h'.notes.seen h'.notes.steps in omega arith)
+      let y = total-set (pass_sum f) mid other (Told t) Spent there in
+      let z : f h' ≡ f h = still h h'.notes.seen h'.notes.steps in omega arith)
       (λ hold s. ⊎_elim (λ (e : (s.seat ≡ other) × (Spent ≡ s.view)). absurd (subst (λ (v : View). IsBehind v hold) (sym e.1) s.behind))
       (λ (e : (s.seat ≢ other) × (get_elem? mid s.seat ≡ some s.view)). ⊎_elim
       (λ (u : (s.seat ≡ id) × (Reader h' ≡ s.view)). record {
@@ -288,7 +287,8 @@ module _ (key : Opening) where
       let e : Account = account_of me.0 in
       let at' : get_elem? state.views id ≡ some (Writer e) = at ∙ ap some is in
       let same : (e ≡ rule.account) × (id ≡ rule.writer) = rule.each_seat id (Writer e) at' in
-      let now : version_in (get_or state.words 0 0) ≡ e.version = version-now key state rule ∙ ap (λ (z : Account). z.version) (sym same.0) in
+      let now : version_in (get_or state.words 0 0) ≡ e.version = version-now key state rule
+      ∙ ap (λ (z : Account). z.version) (sym same.0) in
       let few : length e.settled ≤ 8 = let x = at-le (pass_sum one) state.views id (Writer e) at' in let y = rule.count in
       let z = rule.few in let n = total-one e.settled in omega arith in (
         Writer (after_learning e),
@@ -315,6 +315,8 @@ module _ (key : Opening) where
               (λ i x l. (rule.settled i x l).agrees),
           few,
           refl,
+          subst (λ (z : Account). AreSound z.sizes.segments z.history) (sym same.0)
+              (subst (λ (z : Sizes). AreSound z.segments rule.account.history) (sym rule.told) rule.segments.sound),
         ),
       )
 

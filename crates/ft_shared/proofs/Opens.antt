@@ -12,14 +12,15 @@ use Rattle.ft_shared.specs.declared.law.Slot.{Slot}
 use Rattle.ft_shared.specs.declared.law.Account.{Account}
 use Rattle.ft_shared.specs.declared.law.View.{View}
 use Rattle.ft_shared.specs.declared.law.View.TheVariants.{Writer}
-use Rattle.ft_segments.specs.Walk.{IsOf}
+use Rattle.ft_segments.specs.Packing.{word_at}
+use Rattle.ft_segments.specs.Walk.{IsOf, IsSound, walk}
 use Rattle.ft_shared.specs.Counts.{IsBehind}
-use Rattle.ft_shared.specs.History.{placed_at, place_of, HasVersion}
+use Rattle.ft_shared.specs.History.{placed_at, place_of, HasVersion, IsSoundVersion}
 use Rattle.ft_shared.specs.Layout.{current_word, pool_at}
 use Rattle.ft_shared.specs.Account.{slot_at, no_slot, new_slot, first_account, pool_of}
 use Rattle.ft_shared.specs.Segments.{IsAsPlaced}
 use Rattle.ft_shared.specs.Register.{Fits, RegisterRule}
-use Rattle.ft_shared.proofs.Sums.{bit-zero, pin_inside}
+use Rattle.ft_shared.proofs.Sums.{bit-zero, all_one, pin_inside}
 use Rattle.ft_shared.proofs.Segments.{is_there}
 
 true-false : true ≡ false → ⊥
@@ -47,6 +48,25 @@ pool-length segments words fits = let z : ℕ = 0 in let a = length-append words
     let b : length (replicate (256 * segments - length words) z) ≡ 256 * segments - length words = length-replicate
     (256 * segments - length words) z in omega arith
 
+-- words that are filled up with 0 are as before
+zeros-behind : (xs : List ℕ) (n k : ℕ) → (let z : ℕ = 0 in get_or (xs ++ replicate n z) k z ≡ get_or xs k z)
+zeros-behind [] n k = zeros n k
+zeros-behind (x ∷ xs) n zero = refl
+zeros-behind (x ∷ xs) n (suc k) = zeros-behind xs n k
+
+-- the pool that words fill has these words, and 0 behind them
+pub pool-words : (segments : ℕ) (words : List ℕ) (segment at : ℕ) → word_at (pool_of segments words) segment at ≡ word_at words segment at
+pool-words segments words segment at = zeros-behind words (256 * segments - length words) (segment * 256 + at)
+
+-- a walk that is sound among the segments that words fill is sound in the pool that they fill
+pub pool-sound : (segments n : ℕ) (words : List ℕ) (root : ℕ) → n ≤ segments
+    → walk (pool_of segments words) root ≡ walk words root
+    → IsSound n (walk words root) → IsSound segments (walk (pool_of segments words) root)
+pool-sound segments n words root le same is = subst (IsSound segments) (sym same) (record {
+  once = is.once;
+  within = λ s l. let w = is.within s l in omega arith;
+})
+
 module _ (key : Opening) where
   abbrev front : List ℕ
   front = current_word key.version 0 key.root 0 ∷ replicate (pool_at key.sizes - 1) 0
@@ -63,8 +83,9 @@ module _ (key : Opening) where
   pub opens : (ws pool : List ℕ) → key.sizes.readers ≤ 8 → key.version < 4294967296 → key.root < 65536
       → length pool ≡ 256 * key.sizes.segments → key.words.value.items ≡ ws
       → ws ≡ (current_word key.version 0 key.root 0 ∷ replicate (pool_at key.sizes - 1) 0) ++ pool
+      → IsSound key.sizes.segments (walk pool key.root)
       → RegisterRule key (opening ws [] (Writer (first_account key)))
-  opens ws pool few v r long snap is =
+  opens ws pool few v r long snap is is_sound =
       let p : ℕ = key.sizes.readers * key.sizes.channels in
       let wide : length ws ≡ pool_at key.sizes + 256 * key.sizes.segments = ap length is
       ∙ (length-append front pool ∙ (let f = front-length in omega arith)) in
@@ -77,6 +98,7 @@ module _ (key : Opening) where
       let p1 : PlacedVersion = record { version = key.version; root = key.root; pool = a.pool } in
       let here : placed_at a.history key.version ≡ Some p1 = ap (λ (b : Bool). cond b (Some p1) None)
       (eq-eqb key.version key.version refl) in
+      let pool-is : a.pool ≡ pool = ap (drop (pool_at key.sizes)) (snap ∙ is) ∙ opening-pool pool in
       let starts : (k : ℕ) → (slot_at a k).start ≡ 0 = λ k. each-slot (λ (z : Slot). z.start) 0 y 10 k refl refl in
       let frees : (k : ℕ) → (slot_at a k).free ≡ false = λ k. each-slot (λ (z : Slot). z.free) false y 10 k refl refl in
       record {
@@ -112,6 +134,8 @@ module _ (key : Opening) where
         );
         segments = record {
           filled = (let z : ℕ = key.version in length-replicate key.sizes.segments z, λ k. filled-le key.version key.sizes.segments k);
+          sound = all_one (IsSoundVersion key.sizes.segments) p1
+              (subst (λ (l : List ℕ). IsSound key.sizes.segments (walk l key.root)) (sym pool-is) is_sound);
           current = subst (λ (o : Option PlacedVersion). IfSome o
               (λ placed. (segment : ℕ) → IsOf (place_of placed) segment → IsAsPlaced a placed segment)) (sym here)
               (λ segment of. ((λ place l. refl), filled-at key.version key.sizes.segments segment));

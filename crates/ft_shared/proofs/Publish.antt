@@ -7,6 +7,7 @@ use lib.ListN.{get_elem?}
 use Rattle.atomic_table.specs.Table.{step, keeps, Allows}
 use Rattle.atomic_table.proofs.Lists.{at_set}
 use Rattle.ft_segments.specs.Packing.{word_at}
+use Rattle.ft_segments.specs.Walk.{IsSound, walk}
 use Rattle.ft_shared.specs.declared.law.Sizes.{Sizes}
 use Rattle.ft_shared.specs.declared.law.Opening.{Opening}
 use Rattle.ft_shared.specs.declared.law.PlacedVersion.{PlacedVersion}
@@ -228,12 +229,13 @@ module _ (key : Opening) where
       → get_elem? state.views id ≡ some (Writer rule.account) → id ≡ rule.writer → k < key.sizes.readers + 2
       → (slot_at rule.account k).free ≡ true
       → (slot_at rule.account k).start ≡ 0 → rule.account.version + 1 < 4294967296 → root < 65536
+      → IsSound key.sizes.segments (walk rule.account.pool root)
       → RegisterRule key record {
         words = set state.words 0 (current_word (rule.account.version + 1) k root 0);
         homes = state.homes;
         views = set state.views id (Writer (after_publish rule.account k root (count_in (get_or state.words 0 0))));
       }
-  published_at state rule id k root at writes inside free bare room fits =
+  published_at state rule id k root at writes inside free bare room fits is_sound =
       let a : Account = rule.account in
       let n : ℕ = count_in (get_or state.words 0 0) in
       let b : Account = after_publish a k root n in
@@ -299,7 +301,7 @@ module _ (key : Opening) where
             (segments_published key.sizes state.views a k root n (unplaced a.history key.version a.version a.root rule.history)
             (version-else a k root n) (ap (λ (z : Slot). z.version) is)
             (λ seat view hold there behind t e. some_is (placed_at a.history t.version) (λ placed. placed.root ≡ t.root)
-            ((stands_behind key state rule seat view hold there behind).agrees.held t e)) rule.segments);
+            ((stands_behind key state rule seat view hold there behind).agrees.held t e)) is_sound rule.segments);
         settled = λ i x e. stands_next a k root n (slice_index_or a.settled i x)
             (let y = unheld state rule k free id (Writer a) at in let z = index-le (grip_of k) a.settled i x e in omega arith)
             (rule.settled i x e);
@@ -318,9 +320,10 @@ module _ (key : Opening) where
   pub publishes : (slots id k root : ℕ) (me : SeatView) → me.0 ≡ Writer (account_of me.0) → k < key.sizes.readers + 2
       → key.sizes.readers ≤ 8 → (slot_at (account_of me.0) k).free ≡ true
       → (slot_at (account_of me.0) k).start ≡ 0 → (account_of me.0).version + 1 < 4294967296 → root < 65536
+      → IsSound key.sizes.segments (walk (account_of me.0).pool root)
       → Allows (RegisterRule key) slots id me 0 (λ _. current_word ((account_of me.0).version + 1) k root 0)
       (IsPublish (step slots 0 (current_word ((account_of me.0).version + 1) k root 0) 0 none) me)
-  publishes slots id k root me is inside few free bare room fits state rule deep at small =
+  publishes slots id k root me is inside few free bare room fits is_sound state rule deep at small =
       let e : Account = account_of me.0 in
       let n : ℕ = count_in (get_or state.words 0 0) in
       let at' : get_elem? state.views id ≡ some (Writer e) = at ∙ ap some is in
@@ -338,13 +341,13 @@ module _ (key : Opening) where
         keeps,
         tt,
         subst (λ (z : Account). get_elem? state.views id ≡ some (Writer z) → (slot_at z k).free ≡ true → (slot_at z k).start ≡ 0
-            → z.version + 1 < 4294967296
+            → z.version + 1 < 4294967296 → IsSound key.sizes.segments (walk z.pool root)
             → RegisterRule key record {
               words = set state.words 0 (current_word (z.version + 1) k root 0);
               homes = state.homes;
               views = set state.views id (Writer (after_publish z k root n));
             }) (sym same.0)
-            (λ t f b r. published_at state rule id k root t same.1 inside f b r fits) at' free bare room,
+            (λ t f b r s. published_at state rule id k root t same.1 inside f b r fits s) at' free bare room is_sound,
         (
           (λ i. (
             Writer (after_publish e (sym (slot-of (e.version + 1) k root 0 (omega arith) fits (omega arith)) i)

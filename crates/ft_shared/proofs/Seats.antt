@@ -1,5 +1,5 @@
 -- What a pass is after a step, from its seat.
-use Rattle.std.proofs.Common.{◌≡◌, ℕ, suc, ◌+◌, ◌-◌, ◌<◌, ◌≤◌, List, [], ◌∷◌, length, set, slice_index_or, sym, ap, ◌∙◌, subst, arith, length-set, get_or-set_same, get_or-set_other}
+use Rattle.std.proofs.Common.{◌≡◌, ℕ, suc, ◌+◌, ◌<◌, ◌≤◌, List, [], ◌∷◌, length, set, slice_index_or, sym, ap, ◌∙◌, subst, arith, length-set, get_or-set_same, get_or-set_other}
 use Rattle.ft_shared.specs.declared.law.Sizes.{Sizes}
 use Rattle.ft_shared.specs.declared.law.Hold.{Hold}
 use Rattle.ft_shared.specs.declared.law.Account.{Account}
@@ -105,39 +105,3 @@ writer_settled pass new h kept b is now same few keeps =
       );
       whole = subst (λ (z : Account). SlotsAreMet z.sizes z → sum_below (marks z) (pass.readers + 2) ≤ pass.readers) (sym e) is.whole;
     }
-
--- the writer's pass when it gives back the one that was settled last
-pub writer_resumed : (pass new : WriterInside) (h : Hold) (hs : List Hold) (b : Account) → IsWriterPass pass
-    → new.place.me ≡ (Writer b, [])
-    → (account_in pass).settled ≡ h ∷ hs → b ≡ record (account_in pass) { settled = hs; steps = b.steps }
-    → IsWriterPass (record pass { place = new.place; many = pass.many - 1 })
-writer_resumed pass new h hs b is now has same =
-    let old : Account = account_in pass in
-    let a : Account = record old { settled = hs; steps = b.steps } in
-    let e : account_of new.place.me.0 ≡ a = ap (λ (m : SeatView). account_of m.0) now ∙ same in
-    let more : length old.settled ≡ suc (length hs) = ap (λ (l : List Hold). length l) has in
-    let many = is.many in
-    record {
-      seat = writer_seated new.place.me b now;
-      readers = (ap (λ (z : Account). z.sizes.readers) e ∙ is.readers.0, is.readers.1);
-      version = ap (λ (z : Account). z.version) e ∙ is.version;
-      slot = ap (λ (z : Account). z.slot) e ∙ is.slot;
-      inside = is.inside;
-      slots = ap (λ (z : Account). z.slots) e ∙ is.slots;
-      deep = is.deep;
-      many = (ap (λ (z : Account). length z.settled) e ∙ omega arith, omega arith);
-      room = is.room;
-      settled = subst (λ (z : Account). AreKept z.sizes pass.settled z.settled) (sym e)
-          (subst (AreKept old.sizes pass.settled) has is.settled).1;
-      whole = subst (λ (z : Account). SlotsAreMet z.sizes z → sum_below (marks z) (pass.readers + 2) ≤ pass.readers) (sym e) is.whole;
-    }
-
--- what is kept of the pass that was settled last
-pub kept_last : (pass : WriterInside) (h : Hold) (hs : List Hold) → IsWriterPass pass → (account_in pass).settled ≡ h ∷ hs
-    → IsKeptPass (account_in pass).sizes h (slice_index_or pass.settled (pass.many - 1) no_pass)
-kept_last pass h hs is has =
-    let more : length (account_in pass).settled ≡ suc (length hs) = ap (λ (l : List Hold). length l) has in
-    let many = is.many.0 in
-    let at : length hs ≡ pass.many - 1 = omega arith in
-    subst (λ (k : ℕ). IsKeptPass (account_in pass).sizes h (slice_index_or pass.settled k no_pass)) at
-    (subst (AreKept (account_in pass).sizes pass.settled) has is.settled).0

@@ -1,5 +1,6 @@
 -- The steps keep the rule of the segments.
 use Rattle.std.proofs.Common.{zero, suc, Bool, true, false, cond, ◌==◌, ◌≡◌, ◌≢◌, ◌⊎◌, ℕ, ◌+◌, ◌*◌, ◌<◌, ◌≤◌, List, [], ◌∷◌, ◌++◌, length, set, sym, refl, ap, ◌∙◌, subst, inl, ⊎_elim, arith, Option, Some, None, IsSome, IsNone, IsSomeAnd, IfSome, slice_index, slice_index_or, length-set, get_or-set_other, eq-eqb, ne_eqb}
+use Rattle.std.proofs.lemmas.List.Elements.{All-append, All-nil, All-cons, All-head, All-tail}
 use mathlib.Core.Option.{some}
 use mathlib.Core.Logic.{dite}
 use native.Mathlib.Decide.{ℕ_discrete}
@@ -7,7 +8,7 @@ use lib.ListN.{get_elem?}
 use Rattle.std.specs.List.{slice_get, Contains}
 use Rattle.atomic_table.proofs.Lists.{at_set, at_snoc}
 use Rattle.ft_segments.specs.Packing.{word_at}
-use Rattle.ft_segments.specs.Walk.{IsOf}
+use Rattle.ft_segments.specs.Walk.{IsOf, IsSound, walk}
 use Rattle.ft_segments.specs.Pins.{PinHolds}
 use Rattle.ft_shared.specs.declared.law.Sizes.{Sizes}
 use Rattle.ft_shared.specs.declared.law.PlacedVersion.{PlacedVersion}
@@ -19,7 +20,7 @@ use Rattle.ft_shared.specs.declared.law.Account.{Account}
 use Rattle.ft_shared.specs.declared.law.View.{View}
 use Rattle.ft_shared.specs.declared.law.View.TheVariants.{Reader, Writer}
 use Rattle.ft_shared.specs.Counts.{IsBehind, pin_of}
-use Rattle.ft_shared.specs.History.{placed_at, place_of, HasVersion, IsOfVersion}
+use Rattle.ft_shared.specs.History.{placed_at, place_of, HasVersion, IsOfVersion, IsSoundVersion, AreSound}
 use Rattle.ft_shared.specs.Account.{slot_at, pin_answer, IsPinMet, after_fill, after_publish}
 use Rattle.ft_shared.specs.Segments.{IsAsPlaced, IsUnwritten, IsStanding, IsKept, ArePinsScanned, slot_answer, SegmentRule}
 
@@ -85,6 +86,22 @@ placed_new (x ∷ xs) p ne =
     ap (λ (b : Bool). cond b (Some x) (placed_at (xs ++ p ∷ []) p.version)) (ne_eqb x.version p.version (ne 0 x refl))
     ∙ placed_new xs p (λ n y e. ne (suc n) y e)
 
+-- a version that is found in a sound history is sound
+pub placed_sound : (h : List PlacedVersion) (segments v : ℕ) (p : PlacedVersion) → AreSound segments h → placed_at h v ≡ Some p
+    → IsSoundVersion segments p
+placed_sound [] segments v p all at = absurd (no at)
+  where
+    no : None ≡ Some p → ⊥
+    no e = cc
+placed_sound (x ∷ xs) segments v p all at =
+    pick (x.version == v) (placed_sound xs segments v p (All-tail (IsSoundVersion segments) x xs all)) at
+  where
+    pick : (b : Bool) → (placed_at xs v ≡ Some p → IsSoundVersion segments p) → cond b (Some x) (placed_at xs v) ≡ Some p
+        → IsSoundVersion segments p
+    pick true rest e = let same : x ≡ p = cc in
+        subst (IsSoundVersion segments) same (All-head (IsSoundVersion segments) x xs all)
+    pick false rest e = rest e
+
 -- where the versions stand in order, each is found by its number
 pub placed_in_order : (h : List PlacedVersion) (first : ℕ) → ((n : ℕ) (p : PlacedVersion) → get_elem? h n ≡ some p → p.version ≡ first + n)
     → (n : ℕ) (p : PlacedVersion) → slice_get h n ≡ Some p → placed_at h (first + n) ≡ Some p
@@ -148,6 +165,7 @@ module _ (sizes : Sizes) where
       λ k. let e : slice_index b.filled k ≡ slice_index a.filled k = ap
           (λ (l : List ℕ). slice_index l k) fs in let f = rule.filled.1 k in omega arith,
     );
+    sound = subst (AreSound sizes.segments) (sym hs) rule.sound;
     current = subst (IsUnwritten b) (sym vs) (unwritten_still a b a.version hs ps fs rule.current);
     borne = λ k l. subst (λ (z : List PlacedVersion × ℕ). HasVersion z.0 z.1) (λ i. (sym hs i, sym (slots k) i)) (rule.borne k l);
     answers = answers;
@@ -163,6 +181,7 @@ module _ (sizes : Sizes) where
       → SegmentRule sizes old a → SegmentRule sizes views a
   segments_passes old views a scanned kept rule = record {
     filled = rule.filled;
+    sound = rule.sound;
     current = rule.current;
     borne = rule.borne;
     answers = rule.answers;
@@ -176,6 +195,7 @@ module _ (sizes : Sizes) where
       → SegmentRule sizes views b → SegmentRule sizes (set views id (Writer b)) b
   segments_seat views a b id at same rule = record {
     filled = rule.filled;
+    sound = rule.sound;
     current = rule.current;
     borne = rule.borne;
     answers = rule.answers;
@@ -197,6 +217,7 @@ module _ (sizes : Sizes) where
       → SegmentRule sizes views a → SegmentRule sizes (set views id (Reader h)) a
   segments_reader views a id h kept met rule = record {
     filled = rule.filled;
+    sound = rule.sound;
     current = rule.current;
     borne = rule.borne;
     answers = rule.answers;
@@ -216,6 +237,7 @@ module _ (sizes : Sizes) where
       → SegmentRule sizes (views ++ Reader h ∷ []) a
   segments_more views a h kept met rule = record {
     filled = rule.filled;
+    sound = rule.sound;
     current = rule.current;
     borne = rule.borne;
     answers = rule.answers;
@@ -267,13 +289,16 @@ module _ (sizes : Sizes) where
       → (slot_at (after_publish a k root n) k).version ≡ a.version + 1
       → ((seat : ℕ) (view : View) (hold : Hold) → get_elem? views seat ≡ some view → IsBehind view hold → (t : TakenVersion)
       → hold.notes.held ≡ Some t → HasVersion a.history t.version)
+      → IsSound sizes.segments (walk a.pool root)
       → SegmentRule sizes views a → SegmentRule sizes views (after_publish a k root n)
-  segments_published views a k root n apart else here known rule =
+  segments_published views a k root n apart else here known is_sound rule =
       let b : Account = after_publish a k root n in
       let p : PlacedVersion = record { version = a.version + 1; root = root; pool = a.pool } in
       let new : placed_at b.history p.version ≡ Some p = placed_new a.history p apart in
       record {
         filled = (rule.filled.0, λ j. let f = rule.filled.1 j in omega arith);
+        sound = All-append (IsSoundVersion sizes.segments) a.history (p ∷ []) rule.sound
+            (All-cons (IsSoundVersion sizes.segments) p [] is_sound (All-nil (IsSoundVersion sizes.segments)));
         current = unwritten_new a b p new refl rule.filled.1;
         borne = λ j l. dite (ℕ_discrete j k)
             (λ (e : j ≡ k). subst (λ (i : ℕ). HasVersion b.history (slot_at b i).version) (sym e)
@@ -347,6 +372,7 @@ module _ (sizes : Sizes) where
           (λ (e : k ≢ s). let o : slice_index (set a.filled s (a.version + 1)) k ≡ slice_index a.filled k = get_or-set_other a.filled s k
           (a.version + 1) 0 e in let f = rule.filled.1 k in omega arith),
     );
+    sound = rule.sound;
     current = unwritten_else a s at w a.version few apart rule.current;
     borne = rule.borne;
     answers = rule.answers;

@@ -4,6 +4,7 @@ use Rattle.ft_shared.specs.declared.law.Sizes.{Sizes}
 use Rattle.ft_shared.specs.declared.law.Opening.{Opening}
 use Rattle.ft_shared.specs.declared.law.PinAnswer.{PinAnswer}
 use Rattle.ft_shared.specs.declared.law.Notes.{Notes}
+use Rattle.ft_shared.specs.declared.law.TakenVersion.{TakenVersion}
 use Rattle.ft_shared.specs.declared.law.Hold.{Hold}
 use Rattle.ft_shared.specs.declared.law.Slot.{Slot}
 use Rattle.ft_shared.specs.declared.law.Account.{Account}
@@ -139,6 +140,27 @@ after_resume account = record account {
   settled = drop 1 account.settled;
   steps = account.steps ++ Load current_at ∷ [];
 }
+
+-- every reader's pass is settled
+abbrev pub AreAllSettled : Account → Type 0
+AreAllSettled account = length account.settled ≡ account.sizes.readers
+
+-- A settled pass holds the version in the slot
+abbrev pub IsHeldSlot : Account → ℕ → Type 0
+IsHeldSlot account slot =
+    (hold : Hold) × (taken : TakenVersion) × Contains account.settled hold
+    × (hold.notes.held ≡ Some taken) × (hold.slot ≡ slot)
+
+-- The version that a pass holds is the one that its slot bears
+abbrev pub IsBorne : Account → Hold → Type 0
+IsBorne account hold = (taken : TakenVersion) → hold.notes.held ≡ Some taken
+    → (hold.slot < account.sizes.readers + 2)
+    × ((slot_at account hold.slot).version ≡ taken.version)
+
+-- The reader with this number is settled: it held and had noted this
+abbrev pub IsSettledReader : Account → ℕ → Hold → Type 0
+IsSettledReader account reader hold =
+    Contains account.settled hold × (hold.notes.number ≡ reader)
 
 -- ---- scans
 

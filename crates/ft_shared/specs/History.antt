@@ -3,7 +3,7 @@ use Rattle.std.specs.Prelude.{◌≡◌, ℕ, ◌+◌, ◌==◌, if◌then◌els
 use mathlib.Core.Option.{some}
 use lib.ListN.{get_elem?}
 use Rattle.ft_segments.specs.Packing.{word_at}
-use Rattle.ft_segments.specs.Walk.{Placed, IsOf}
+use Rattle.ft_segments.specs.Walk.{Placed, IsOf, IsSound, ids_of}
 use Rattle.ft_segments.specs.Pins.{PinHolds}
 use Rattle.ft_shared.specs.declared.law.PlacedVersion.{PlacedVersion}
 use Rattle.ft_shared.specs.declared.law.TakenVersion.{TakenVersion}
@@ -54,6 +54,14 @@ pub record Agrees (history : List PlacedVersion) (notes : Notes) : Type 0 where
   pub takes : All (HasTakenVersion history) notes.takes
   pub held : (taken : TakenVersion) → notes.held ≡ Some taken → HasTakenVersion history taken
   pub reads : All (HasRead history) notes.reads
+
+-- The walk of a version stays among so many segments, and names each once
+abbrev pub IsSoundVersion : ℕ → PlacedVersion → Type 0
+IsSoundVersion segments placed = IsSound segments (ids_of (place_of placed))
+
+-- So does that of each version of the history
+abbrev pub AreSound : ℕ → List PlacedVersion → Type 0
+AreSound segments history = All (IsSoundVersion segments) history
 
 -- The history has each version from the first to the last in order, and the last has this root
 pub record IsHistory (history : List PlacedVersion) (first last root : ℕ) : Type 0 where

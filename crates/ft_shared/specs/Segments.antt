@@ -12,7 +12,7 @@ use Rattle.ft_shared.specs.declared.law.Hold.{Hold}
 use Rattle.ft_shared.specs.declared.law.Account.{Account}
 use Rattle.ft_shared.specs.declared.law.View.{View}
 use Rattle.ft_shared.specs.Counts.{IsBehind, pin_of}
-use Rattle.ft_shared.specs.History.{placed_at, place_of, HasVersion}
+use Rattle.ft_shared.specs.History.{placed_at, place_of, HasVersion, AreSound}
 use Rattle.ft_shared.specs.Account.{slot_at, IsAnswered, IsPinAnswer, IsPinMet}
 
 -- A segment of a version is as it was: its words are the version's, and it was last filled for that
@@ -64,6 +64,8 @@ pub record SegmentRule (sizes : Sizes) (views : List View) (account : Account) :
   -- no segment was filled for a version after the next one
   pub filled : (length account.filled ≡ sizes.segments)
       × ((segment : ℕ) → slice_index account.filled segment ≤ account.version + 1)
+  -- the walk of each version of the history stays in the pool, and names each segment once
+  pub sound : AreSound sizes.segments account.history
   -- the current version was not written since it was published
   pub current : IsUnwritten account account.version
   -- each slot bears, or bore last, a version of the history

@@ -15,7 +15,7 @@ ghost use Rattle.ft_shared.specs.declared.law.Hold.{Hold};
 ghost use Rattle.ft_shared.specs.declared.law.Account.{Account};
 ghost use Rattle.ft_shared.specs.declared.law.View.{View};
 ghost use Rattle.ft_shared.specs.Counts.{IsBehind, pin_of};
-ghost use Rattle.ft_shared.specs.History.{placed_at, Agrees, IsHistory};
+ghost use Rattle.ft_shared.specs.History.{placed_at, Agrees, IsHistory, IsSoundVersion, AreSound};
 ghost use Rattle.ft_shared.specs.Account.{IsWhole, IsAnswered, Found, MayFill};
 ghost use Rattle.ft_shared.specs.Segments.{IsUnwritten, IsPinUnwritten};
 ghost use Rattle.ft_shared.specs.HeldSegments.{IsHeldBy, IsHeld};
@@ -87,4 +87,15 @@ pub fn a_take_or_a_pin_adds_nothing_unfound()
 pub fn a_longer_history_agrees()
     ensures { (history more : List PlacedVersion) (notes : Notes)
         → Agrees history notes → Agrees (history ++ more) notes }
+{}
+
+/// The walk of each version of the history stays among the segments of the pool, and names each
+/// once: those of the writer's history, by the rule, and so that of each version which is found in
+/// it by its number.
+pub fn each_version_is_sound()
+    ensures history { (key : Opening) (state : TableState) (rule : RegisterRule key state)
+        → AreSound key.sizes.segments rule.account.history }
+    ensures version { (history : List PlacedVersion) (segments number : ℕ) (placed : PlacedVersion)
+        → AreSound segments history → placed_at history number ≡ Some placed
+        → IsSoundVersion segments placed }
 {}

@@ -27,7 +27,7 @@ pub use law::{
 };
 pub use laws::{
     a_held_segment_is_as_placed, a_longer_history_agrees, a_take_or_a_pin_adds_nothing_unfound,
-    a_version_stands_at_its_number, a_whole_scan_finds_each_held_segment,
+    a_version_stands_at_its_number, a_whole_scan_finds_each_held_segment, each_version_is_sound,
     the_history_agrees_with_each_pass,
 };
 pub use notes::Note;

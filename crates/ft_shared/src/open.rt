@@ -16,6 +16,7 @@ use crate::reader::ReaderPass;
 use crate::shared::{OpenFault, Shared};
 use crate::table::WordTable;
 use crate::writer::WriterPass;
+use ft_segments::a_walk_reads_words_alone;
 use std::alloc::{AllocError, Global};
 use std::snapshot::Snapshot;
 
@@ -51,6 +52,7 @@ impl Shared {
             ≡ opening_writer made.0 version root (pool_of segments words.now)) }
         ensures passes { IfOk result (λ made. made.2 ≡ fresh_passes made.0 readers) }
     {
+        a_walk_reads_words_alone();
         let need = (words.len() / 256) as u32;
         if need > segments as u32 {
             return Err(OpenFault::PoolSmall { need, segments });
@@ -77,6 +79,7 @@ impl Shared {
         requires channels { sizes.channels ≤ 32 }
         requires segments { sizes.segments < 65536 }
         requires fits { length words.now ≤ 256 * sizes.segments }
+        requires sound { IsSound sizes.segments (walk (pool_of sizes.segments words.now) root) }
         ensures sizes { IfOk result (λ made. made.0.sizes ≡ sizes) }
         ensures writer { IfOk result (λ made. made.1
             ≡ opening_writer made.0 version root (pool_of sizes.segments words.now)) }

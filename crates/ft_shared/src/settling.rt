@@ -1,6 +1,6 @@
 //! A reader gives up its pass to the writer, and may get it back.
 ghost use Rattle.std.specs.Prelude.{◌≡◌, All, IsSome, IsSomeAnd};
-ghost use Rattle.ft_shared.specs.History.{Agrees};
+ghost use Rattle.ft_shared.specs.History.{Agrees, AreSound};
 ghost use Rattle.ft_shared.specs.Account.{after_settle, after_resume, last_settled};
 ghost use Rattle.ft_shared.specs.Pass.{hold_at, resumed_pass};
 
@@ -18,8 +18,8 @@ pub struct Settled {
 
 impl Shared {
     /// Gives up a reader's pass. What it held stays held: a version, and its pins. The writer's
-    /// history agrees with all that the pass has noted, and with what each settled pass has. Two
-    /// loads.
+    /// history agrees with all that the pass has noted, and with what each settled pass has. The
+    /// walk of each version of the history stays in the pool. Two loads.
     pub fn settle(&self, writer: &mut WriterPass, reader: ReaderPass) -> Settled
         requires writer { writer.old.register ≡ self.now }
         requires reader { reader.register ≡ self.now }
@@ -30,6 +30,7 @@ impl Shared {
         ensures agrees { Agrees writer.new.account.history reader.notes }
         ensures all { All (λ hold. Agrees writer.new.account.history hold.notes)
             writer.new.account.settled }
+        ensures sound { AreSound self.now.sizes.segments writer.new.account.history }
     {
         let (place, kept) = reader.parts();
         self.words.join_seat::<Settle>(&mut writer.place, place);

@@ -1,9 +1,9 @@
 //! The writer: it scans the slots for one that no reader holds, and publishes the next
 //! version in it.
-ghost use Rattle.std.specs.Prelude.{◌≡◌, ◌≢◌, ℕ, ◌+◌, ◌-◌, ◌<◌, ◌≤◌, ◌↔◌, [], ◌∷◌, ◌++◌, true, false, Some, IsNone, IsSome, IfSome, length, slice_index_or, replicate};
+ghost use Rattle.std.specs.Prelude.{◌≡◌, ◌≢◌, ◌⊎◌, All, ℕ, ◌+◌, ◌-◌, ◌<◌, ◌≤◌, ◌↔◌, [], ◌∷◌, ◌++◌, true, false, Some, IsNone, IsSome, IfSome, length, slice_index_or, replicate};
 ghost use Rattle.ft_segments.specs.Walk.{IsSound, walk};
 ghost use Rattle.ft_shared.specs.History.{placed_at, HasVersion};
-ghost use Rattle.ft_shared.specs.Account.{account_of, new_slot, slot_at, no_slot, next_slot, IsWhole, after_begin, after_scan, answer_of};
+ghost use Rattle.ft_shared.specs.Account.{account_of, new_slot, slot_at, no_slot, next_slot, IsWhole, AreAllSettled, IsHeldSlot, IsBorne, after_begin, after_scan, answer_of};
 ghost use Rattle.ft_shared.specs.Pass.{Publishes, writer_at};
 ghost use Rattle.ft_shared.specs.declared.law.View.TheVariants.{Writer};
 
@@ -80,6 +80,8 @@ impl Shared {
     /// it was found free. Slots come in ascending order. One load.
     ///
     /// A slot once found free is found free by each later scan, until a publish chooses it.
+    /// While every reader's pass is settled, the answer is a version exactly for the current
+    /// slot and for those of the versions that these passes hold.
     pub fn scan_slot(&self, pass: &mut WriterPass, slot: u8) -> Option<u32>
         requires same { pass.old.register ≡ self.now }
         requires begun { pass.old.account.begun ≡ true }
@@ -96,6 +98,9 @@ impl Shared {
           account = after_scan pass.old.account pass.new.account.gone;
         } }
         ensures answer { result ≡ answer_of pass.old.account slot pass.new.account.gone }
+        ensures borne { All (IsBorne pass.old.account) pass.old.account.settled }
+        ensures exact { AreAllSettled pass.old.account → IsSome result
+            ↔ ((slot ≡ pass.old.account.slot) ⊎ IsHeldSlot pass.old.account slot) }
     {
         let index = slot as usize;
         let gone = self.words.scan_load::<ScanSlot>(&mut pass.place, index + 1);

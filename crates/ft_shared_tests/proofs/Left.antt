@@ -9,4 +9,5 @@ left_through a b c f g = record {
   version = g.version ∙ f.version;
   history = g.history ∙ f.history;
   pool = g.pool ∙ f.pool;
+  settled = g.settled ∙ f.settled;
 }

@@ -104,7 +104,8 @@ fn fill_one(shared: &Shared, writer: &mut WriterPass, segment: u16, at: u8, word
     requires unfound { IsUnfound shared.now.sizes writer.old.account segment }
     ensures same { writer.new.register ≡ writer.old.register }
     ensures left { (writer.new.account.version ≡ writer.old.account.version)
-        × (writer.new.account.history ≡ writer.old.account.history) }
+        × (writer.new.account.history ≡ writer.old.account.history)
+        × (writer.new.account.settled ≡ writer.old.account.settled) }
     ensures bare { IsBarePool writer.new.account.pool }
     ensures unfound { IsUnfound shared.now.sizes writer.new.account segment }
 {
@@ -122,6 +123,7 @@ fn publish_bare(shared: &Shared, writer: &mut WriterPass, root: u16) -> u32
     ensures same { writer.new.register ≡ writer.old.register }
     ensures version { (result ≡ writer.old.account.version + 1)
         × (writer.new.account.version ≡ result) }
+    ensures settled { writer.new.account.settled ≡ writer.old.account.settled }
     ensures bare { IsBarePool writer.new.account.pool }
     ensures known { (roots : List ℕ) → length roots ≡ result
         → AreRoots writer.old.account.history roots
@@ -147,6 +149,7 @@ pub fn publish_next(
     ensures author { IsAuthor shared.now writer.new roots.new.items }
     ensures none { IsNone result → writer.new.account.version ≡ writer.old.account.version }
     ensures some { IsSome result → writer.new.account.version ≡ writer.old.account.version + 1 }
+    ensures settled { writer.new.account.settled ≡ writer.old.account.settled }
 {
     if roots.reserve(1).is_err() {
         return None;

@@ -9,4 +9,6 @@ mod rows;
 #[cfg(test)]
 mod scans;
 #[cfg(test)]
+mod settled;
+#[cfg(test)]
 mod threads;

@@ -32,7 +32,7 @@ fn scan_shows(
 }
 
 /// Looks, and leaves the held version if there is a newer one.
-fn left<L: Ledger>(
+pub fn left<L: Ledger>(
     shared: &Shared,
     reader: &mut ReaderPass,
     held: u32,

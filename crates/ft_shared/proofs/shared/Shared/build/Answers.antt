@@ -12,6 +12,7 @@ of_words-requires c =
     opens _ c.as_slice.result.now pool c.requires.readers.1 (search rules) (search rules)
     (pool-length c.args.sizes.segments c.args.words.now c.requires.fits)
     (ap (λ v. v.items) c.of.ensures ∙ sym c.as_slice.ensures.value) (c.as_slice.ensures.value ∙ c.in_ok-all_words.ensures)
+    c.requires.sound
 
 pub returns-clause-writer : goal.returns-clause-writer
 returns-clause-writer c =

@@ -1,6 +1,7 @@
 use Rattle.std.proofs.Common.{◌∷◌, ◌++◌, Some, IsNone, rules, ap, ◌∙◌, ◌≡◌, ◌≢◌, ◌≤◌, ◌+◌, ◌*◌, ℕ, true, false, List, length, set, slice_index_or, subst, sym, refl, arith, get_or-set_same, length-set, []}
 use mathlib.Core.Option.{none}
 use Rattle.atomic_table.specs.Table.{Allows, step}
+use Rattle.ft_segments.specs.Walk.{IsSound, walk}
 use Rattle.ft_shared.specs.declared.law.Sizes.{Sizes}
 use Rattle.ft_shared.specs.declared.law.Slot.{Slot}
 use Rattle.ft_shared.specs.declared.law.Account.{Account}
@@ -89,7 +90,12 @@ swap-found-requires c =
       omega arith,
       subst (λ (x : ℕ). Allows (RegisterRule key) slots c.store.new.place.id me 0 (λ _. x) (IsPublish (step slots 0 x 0 none) me)) word
           (publishes key slots c.store.new.place.id k c.args.root me (ap (λ m. m.0) (seated _ _ now)) (omega arith)
-          (omega arith) free start (omega arith) (omega arith)),
+          (omega arith) free start (omega arith) (omega arith)
+          (subst (λ (z : ℕ × List ℕ). IsSound z.0 (walk z.1 c.args.root))
+          (λ i. (
+            sym (ap (λ o. o.sizes.segments) c.self.view_is) i,
+            sym (ap (λ (z : Account). z.pool) e ∙ ap (λ b. b.account.pool) c.pass.view_is) i,
+          )) c.requires.sound)),
     )
 
 pub invariant_of-pass : goal.invariant_of-pass
