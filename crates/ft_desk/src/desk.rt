@@ -4,6 +4,7 @@ ghost use Rattle.std.specs.Prelude.{◌≡◌, ℕ, ◌≤◌, ◌<◌, None, If
 ghost use Rattle.std.specs.Result.{IsErrOf};
 ghost use Rattle.ft_types.specs.Valid.{IsValid};
 ghost use Rattle.ft_types.specs.Blocks.{blocks_of};
+ghost use Rattle.ft_shared.specs.Account.{after_note};
 ghost use Rattle.ft_shared.specs.Pass.{fresh_passes};
 ghost use Rattle.ft_shared.specs.declared.shared.OpenFault.TheVariants.{PoolSmall, NoMemory};
 ghost use Rattle.ft_image.specs.Laid.{song_laid};
@@ -11,7 +12,7 @@ ghost use Rattle.ft_desk.specs.Desk.{IsDesk, IsOpened, desk_of};
 ghost use Rattle.ft_desk.specs.Parts.{parts_of, opening_parts, part_of};
 
 use ft_image::{place, shown_stays};
-use ft_shared::{OpenFault, ReaderPasses, Shared, WriterPass};
+use ft_shared::{Note, OpenFault, ReaderPasses, Shared, WriterPass};
 use ft_types::{Journal, Module, blocks};
 use std::alloc::Global;
 use std::marker::Model;
@@ -128,5 +129,20 @@ impl Desk {
         ensures { result.now ≡ self.now.journal }
     {
         &self.journal
+    }
+
+    /// A note of the current version, for one reader to hear. `shared` is what was opened with this
+    /// desk. One load.
+    pub fn note(&mut self, shared: &Shared) -> Note
+        requires { self.old.writer.register ≡ shared.now }
+        ensures noted { self.new ≡ record self.old {
+          writer = record self.old.writer { account = after_note self.old.writer.account };
+        } }
+        ensures note { result ≡ record {
+          register = shared.now;
+          version = self.old.writer.account.version;
+        } }
+    {
+        shared.note(&mut self.pass)
     }
 }
