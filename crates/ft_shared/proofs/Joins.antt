@@ -1,9 +1,11 @@
 -- Seats that are cut in two, and seats that are joined, keep the rule.
-use Rattle.std.proofs.Common.{◌≡◌, ◌≢◌, ℕ, ◌+◌, ◌≤◌, List, [], ◌∷◌, ◌++◌, get_or, set, sym, refl, ap, ◌∙◌, subst, ⊎_elim, arith, All}
+use Rattle.std.proofs.Common.{◌≡◌, ◌≢◌, ◌⊎◌, inl, inr, ℕ, zero, suc, ◌+◌, ◌≤◌, true, false, List, [], ◌∷◌, ◌++◌, length, drop, get_or, set, slice_get, sym, refl, ap, ◌∙◌, subst, ⊎_elim, arith, All, IsSome}
+use Rattle.std.proofs.lemmas.List.Elements.{All-cons, All-head, All-tail}
 use Rattle.std.specs.List.{Contains}
-use mathlib.Core.Option.{some}
+use mathlib.Core.Option.{none, some}
 use lib.ListN.{get_elem?}
-use Rattle.atomic_table.specs.Table.{Splits, Joins}
+use lib.Seq.{set-get_or}
+use Rattle.atomic_table.specs.Table.{step, keeps, Allows, Splits, Joins}
 use Rattle.atomic_table.proofs.Lists.{at_set, at_snoc, set_else}
 use Rattle.ft_shared.specs.declared.law.Opening.{Opening}
 use Rattle.ft_shared.specs.declared.law.WordStep.{WordStep}
@@ -12,16 +14,18 @@ use Rattle.ft_shared.specs.declared.law.Account.{Account}
 use Rattle.ft_shared.specs.declared.law.ToldVersion.{ToldVersion}
 use Rattle.ft_shared.specs.declared.law.View.{View}
 use Rattle.ft_shared.specs.declared.law.View.TheVariants.{Spent, Reader, Writer, Told}
-use Rattle.ft_shared.specs.Layout.{current_word}
+use Rattle.ft_shared.specs.Layout.{current_word, version_in}
 use Rattle.ft_shared.specs.Counts.{total, pass_sum, one, has_number, grip_of, holders, IsBehind, pin_amount}
-use Rattle.ft_shared.specs.Account.{hold_of, account_of, told_of, after_note}
+use Rattle.ft_shared.specs.Account.{hold_of, account_of, told_of, after_note, after_join, after_learning, last_settled}
+use Rattle.ft_shared.specs.History.{Agrees}
 use Rattle.ft_shared.specs.Segments.{IsKept, ArePinsScanned}
-use Rattle.ft_shared.specs.Register.{TableState, Stands, Fits, RegisterRule}
-use Rattle.ft_shared.specs.Plays.{after_making, made_note, after_hear, heard}
-use Rattle.ft_shared.proofs.Sums.{total-set, total-append}
-use Rattle.ft_shared.proofs.Segments.{segments_still, segments_passes}
-use Rattle.ft_shared.proofs.Readers.{fewer}
-use Rattle.ft_shared.proofs.Writes.{stands_still, seats_still, sum_still}
+use Rattle.ft_shared.specs.Register.{TableState, SeatView, Stands, Fits, RegisterRule}
+use Rattle.ft_shared.specs.Plays.{after_making, made_note, after_hear, heard, IsLearning, joined, after_giving_back, resumed_hold, first_back, given_back}
+use Rattle.ft_shared.proofs.Sums.{total-set, total-append, at-le}
+use Rattle.ft_shared.proofs.Segments.{is_there, segments_still, segments_passes}
+use Rattle.ft_shared.proofs.Exact.{total-one}
+use Rattle.ft_shared.proofs.Readers.{fewer, version-now}
+use Rattle.ft_shared.proofs.Writes.{stands_still, seats_still, sum_still, scan_at}
 
 -- The pass is behind a seat
 record Seated (views : List View) (hold : Hold) : Type 0 where
@@ -49,6 +53,19 @@ SeesElse amount = (hold : Hold) (seen : ℕ) (steps : List WordStep) → amount 
 -- A pass is what it was
 was_seated : (views : List View) (hold : Hold) → Seated views hold → Was views hold
 was_seated views hold seated = record { old = hold; seen = hold.notes.seen; steps = hold.notes.steps; seated = seated; is = refl }
+
+contains-cons : {A : Type 0} (x : A) (l : List A) (y : A) → Contains (x ∷ l) y → (x ≡ y) ⊎ Contains l y
+contains-cons x l y (zero, less, is) = inl is
+contains-cons x l y (suc n, less, is) = inr (n, omega arith, is)
+
+contains-more : {A : Type 0} (x : A) (l : List A) (y : A) → Contains l y → Contains (x ∷ l) y
+contains-more x l y c = let less = c.1 in (suc c.0, omega arith, c.2)
+
+none-last : (a : Account) → a.settled ≡ [] → IsSome (last_settled a) → ⊥
+none-last a has more = no (sym more ∙ ap (λ (l : List Hold). is_there (slice_get l 0)) has)
+  where
+    no : true ≡ false → ⊥
+    no e = cc
 
 module _ (key : Opening) where
   -- seats are cut or joined: behind them are the passes that were behind them before, settled or not
@@ -207,3 +224,171 @@ module _ (key : Opening) where
       → Joins (RegisterRule key) id v other w (heard v w) Spent
   hears id other v w a b = subst (λ (z : View × View). Joins (RegisterRule key) id z.0 other z.1 (heard z.0 z.1) Spent)
       (λ i. (sym a i, sym b i)) (hears_one id other (hold_of v) (told_of w))
+
+  -- ---- settled passes
+
+  -- the writer's seat takes in that of a reader
+  settled_at : (state : TableState) (rule : RegisterRule key state) (id other : ℕ) (h : Hold)
+      → get_elem? state.views id ≡ some (Writer rule.account) → id ≡ rule.writer → (other ≡ id → ⊥)
+      → get_elem? (set state.views id (Writer (after_join rule.account h))) other ≡ some (Reader h)
+      → RegisterRule key record {
+        words = state.words;
+        homes = state.homes;
+        views = set (set state.views id (Writer (after_join rule.account h))) other Spent;
+      }
+  settled_at state rule id other h at writes apart there =
+      let a : Account = rule.account in
+      let b : Account = after_join a h in
+      let mid : List View = set state.views id (Writer b) in
+      let was : get_elem? state.views other ≡ some (Reader h) = sym (set_else state.views id other (Writer b) apart) ∙ there in
+      let mine : Stands key a h = rule.each_seat other (Reader h) was in
+      regrouped state rule b.settled b.steps (set mid other Spent)
+      (λ f still. let x = total-set (pass_sum f) state.views id (Writer a) (Writer b) at in
+      let y = total-set (pass_sum f) mid other (Reader h) Spent there in omega arith)
+      (λ hold s. ⊎_elim (λ (e : (s.seat ≡ other) × (Spent ≡ s.view)). absurd (subst (λ (v : View). IsBehind v hold) (sym e.1) s.behind))
+      (λ (e : (s.seat ≢ other) × (get_elem? mid s.seat ≡ some s.view)). ⊎_elim
+      (λ (u : (s.seat ≡ id) × (Writer b ≡ s.view)). ⊎_elim
+      (λ (t : h ≡ hold). was_seated state.views hold (record { seat = other; view = Reader h; at = was; behind = t }))
+      (λ (t : Contains a.settled hold). was_seated state.views hold (record { seat = id; view = Writer a; at = at; behind = t }))
+      (contains-cons h a.settled hold (subst (λ (v : View). IsBehind v hold) (sym u.1) s.behind)))
+      (λ (u : (s.seat ≢ id) × (get_elem? state.views s.seat ≡ some s.view)). was_seated state.views hold
+      (record { seat = s.seat; view = s.view; at = u.1; behind = s.behind }))
+      (at_set state.views id s.seat (Writer b) s.view e.1))
+      (at_set mid other s.seat Spent s.view s.at))
+      (All-cons (Stands key a) h a.settled mine rule.settled)
+      (λ j v e. ⊎_elim (λ (u : (j ≡ other) × (Spent ≡ v)). subst (Fits key b rule.writer j) u.1 tt)
+      (λ (u : (j ≢ other) × (get_elem? mid j ≡ some v)). seats_still key state rule id writes b refl (λ k. refl) refl j v u.1)
+      (at_set mid other j Spent v e))
+
+  settles_one : (id other : ℕ) (e : Account) (h : Hold)
+      → Joins (RegisterRule key) id (Writer e) other (Reader h) (Writer (after_join e h)) Spent
+  settles_one id other e h state rule at apart there =
+      let same : (e ≡ rule.account) × (id ≡ rule.writer) = rule.each_seat id (Writer e) at in
+      subst (λ (y : Account). get_elem? state.views id ≡ some (Writer y)
+      → get_elem? (set state.views id (Writer (after_join y h))) other ≡ some (Reader h)
+      → RegisterRule key record {
+        words = state.words;
+        homes = state.homes;
+        views = set (set state.views id (Writer (after_join y h))) other Spent;
+      })
+      (sym same.0) (λ t u. settled_at state rule id other h t same.1 apart u) at there
+
+  pub settles : (id other : ℕ) (v w : View) (h : Hold) → v ≡ Writer (account_of v) → w ≡ Reader h
+      → Joins (RegisterRule key) id v other w (joined v w) Spent
+  settles id other v w h a b = subst (λ (z : View × View). Joins (RegisterRule key) id z.0 other z.1 (joined z.0 z.1) Spent)
+      (λ i. (sym a i, sym b i)) (settles_one id other (account_of v) h)
+
+  -- the writer learns of the settled passes
+  pub learns : (slots id : ℕ) (me : SeatView) → me.0 ≡ Writer (account_of me.0)
+      → Allows (RegisterRule key) slots id me 0 (λ n. n) (IsLearning (step slots 0 0 0 none) me)
+  learns slots id me is state rule deep at small =
+      let e : Account = account_of me.0 in
+      let at' : get_elem? state.views id ≡ some (Writer e) = at ∙ ap some is in
+      let same : (e ≡ rule.account) × (id ≡ rule.writer) = rule.each_seat id (Writer e) at' in
+      let now : version_in (get_or state.words 0 0) ≡ e.version = version-now key state rule ∙ ap (λ (z : Account). z.version) (sym same.0) in
+      let few : length e.settled ≤ 8 = let x = at-le (pass_sum one) state.views id (Writer e) at' in let y = rule.count in
+      let z = rule.few in let n = total-one e.settled in omega arith in (
+        Writer (after_learning e),
+        keeps,
+        tt,
+        subst (λ (words : List ℕ). RegisterRule key record {
+          words = words;
+          homes = state.homes;
+          views = set state.views id (Writer (after_learning e));
+        }) (sym (set-get_or state.words 0 0))
+            (subst (λ (z : Account). get_elem? state.views id ≡ some (Writer z)
+            → RegisterRule key record {
+              words = state.words;
+              homes = state.homes;
+              views = set state.views id (Writer (after_learning z));
+            })
+            (sym same.0)
+            (λ t. scan_at key state rule id (after_learning rule.account) t same.1 refl rule.deep (λ k. refl)
+            (λ k. refl) rule.unused rule.scanned rule.segments.answers rule.segments.order rule.segments.scanned) at'),
+        (
+          refl,
+          now,
+          subst (λ (z : Account). All (λ (h : Hold). Agrees z.history h.notes) z.settled) (sym same.0)
+              (λ i x l. (rule.settled i x l).agrees),
+          few,
+          refl,
+        ),
+      )
+
+  -- the writer's seat gives back that which it took in last
+  resumed_at : (state : TableState) (rule : RegisterRule key state) (id : ℕ) (h : Hold) (hs : List Hold)
+      → get_elem? state.views id ≡ some (Writer rule.account) → id ≡ rule.writer → rule.account.settled ≡ h ∷ hs
+      → RegisterRule key record {
+        words = state.words;
+        homes = state.homes;
+        views = set state.views id (Writer (record (after_note rule.account) { settled = hs })) ++ Reader
+            (resumed_hold h rule.account.version) ∷ [];
+      }
+  resumed_at state rule id h hs at writes has =
+      let a : Account = rule.account in
+      let b : Account = record (after_note a) { settled = hs } in
+      let h' : Hold = resumed_hold h a.version in
+      let mid : List View = set state.views id (Writer b) in
+      let all : All (Stands key a) (h ∷ hs) = subst (All (Stands key a)) has rule.settled in
+      let mine : Stands key a h = All-head (Stands key a) h hs all in
+      let seen : h.notes.seen ≤ a.version = mine.past in
+      let stands : Stands key b h' = record {
+        told = mine.told;
+        past = omega arith;
+        recent = mine.recent;
+        borne = mine.borne;
+        agrees = record { looks = mine.agrees.looks; takes = mine.agrees.takes; held = mine.agrees.held; reads = mine.agrees.reads };
+      } in
+      let old : (hold : Hold) → Contains (h ∷ hs) hold → Seated state.views hold = λ hold c. record {
+        seat = id;
+        view = Writer a;
+        at = at;
+        behind = subst (λ (l : List Hold). Contains l hold) (sym has) c;
+      } in
+      regrouped state rule hs b.steps (mid ++ Reader h' ∷ [])
+      (λ f still. let x = total-append (pass_sum f) mid (Reader h' ∷ []) in
+      let y = total-set (pass_sum f) state.views id (Writer a) (Writer b) at in
+      let z : total f a.settled ≡ f h + total f hs = ap (total f) has in
+      let w : f h' ≡ f h = still h h'.notes.seen h'.notes.steps in omega arith)
+      (λ hold s. ⊎_elim
+      (λ (e : get_elem? mid s.seat ≡ some s.view). ⊎_elim
+      (λ (u : (s.seat ≡ id) × (Writer b ≡ s.view)). was_seated state.views hold (old hold
+      (contains-more h hs hold (subst (λ (v : View). IsBehind v hold) (sym u.1) s.behind))))
+      (λ (u : (s.seat ≢ id) × (get_elem? state.views s.seat ≡ some s.view)). was_seated state.views hold
+      (record { seat = s.seat; view = s.view; at = u.1; behind = s.behind }))
+      (at_set state.views id s.seat (Writer b) s.view e))
+      (λ (e : Reader h' ≡ s.view). record {
+        old = h;
+        seen = h'.notes.seen;
+        steps = h'.notes.steps;
+        seated = old h (0, omega arith, refl);
+        is = subst (λ (v : View). IsBehind v hold) (sym e) s.behind;
+      })
+      (at_snoc mid (Reader h') s.view s.seat s.at))
+      (All-tail (Stands key a) h hs all)
+      (λ j v e. ⊎_elim (λ (u : get_elem? mid j ≡ some v). seats_still key state rule id writes b refl (λ k. refl) refl j v u)
+      (λ (u : Reader h' ≡ v). subst (Fits key b rule.writer j) u stands)
+      (at_snoc mid (Reader h') v j e))
+
+  pub resumes : (id : ℕ) (v : View) → v ≡ Writer (account_of v) → IsSome (last_settled (account_of v))
+      → Splits (RegisterRule key) id v (after_giving_back v) (given_back v)
+  resumes id v is more = subst (λ (w : View). Splits (RegisterRule key) id w (after_giving_back w) (given_back w)) (sym is)
+      (one (account_of v) (account_of v).settled refl more)
+    where
+      one : (e : Account) (l : List Hold) → e.settled ≡ l → IsSome (last_settled e)
+          → Splits (RegisterRule key) id (Writer e) (after_giving_back (Writer e)) (given_back (Writer e))
+      one e [] has more state rule at = absurd (none-last e has more)
+      one e (h ∷ hs) has more state rule at =
+          let same : (e ≡ rule.account) × (id ≡ rule.writer) = rule.each_seat id (Writer e) at in
+          subst (λ (l : List Hold). RegisterRule key record {
+            words = state.words;
+            homes = state.homes;
+            views = set state.views id (Writer (record (after_note e) { settled = drop 1 l })) ++ first_back l e.version ∷ [];
+          }) (sym has)
+          (subst (λ (y : Account). get_elem? state.views id ≡ some (Writer y) → y.settled ≡ h ∷ hs
+          → RegisterRule key record {
+            words = state.words;
+            homes = state.homes;
+            views = set state.views id (Writer (record (after_note y) { settled = hs })) ++ Reader (resumed_hold h y.version) ∷ [];
+          })
+          (sym same.0) (λ t l. resumed_at state rule id h hs t same.1 l) at has)

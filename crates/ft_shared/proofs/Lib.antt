@@ -1,5 +1,6 @@
 pub mod Sums
 pub mod Readers
+pub mod Exact
 pub mod Writes
 pub mod Joins
 pub mod Publish

@@ -1,5 +1,5 @@
 -- The steps on pins keep the rule.
-use Rattle.std.proofs.Common.{nat_lt, ◌==◌, zero, suc, Bool, true, false, cond, le-ltb, eqb, eq-eqb, ne_eqb, ◌≡◌, ◌≢◌, ℕ, ◌+◌, ◌-◌, ◌*◌, ◌<◌, ◌≤◌, List, [], ◌∷◌, ◌++◌, length, lt_of_not-le, get_or, set, sym, refl, ap, ◌∙◌, subst, inl, inr, ⊎_elim, arith, Option, Some, None, All, IsSome, IsSomeAnd, IfSome, slice_index_or, length-set, get_or-set_other, get_or-set_same}
+use Rattle.std.proofs.Common.{nat_lt, ◌==◌, zero, suc, Bool, true, false, cond, le-ltb, lt-ltb, true-eqb, eqb, eq-eqb, ne_eqb, ◌≡◌, ◌≢◌, ℕ, ◌+◌, ◌-◌, ◌*◌, ◌<◌, ◌≤◌, List, [], ◌∷◌, ◌++◌, length, lt_of_not-le, get_or, set, sym, refl, ap, ◌∙◌, subst, inl, inr, ⊎_elim, arith, Option, Some, None, All, IsSome, IsSomeAnd, IfSome, slice_index_or, length-set, get_or-set_other, get_or-set_same}
 use Rattle.std.proofs.lemmas.List.Elements.{All-append, Contains-get_or, Contains-append_left, Contains-push, Contains-push_cases}
 use Rattle.std.specs.List.{Contains}
 use mathlib.Core.Option.{none, some}
@@ -24,15 +24,16 @@ use Rattle.ft_shared.specs.declared.law.Account.{Account}
 use Rattle.ft_shared.specs.declared.law.View.{View}
 use Rattle.ft_shared.specs.declared.law.View.TheVariants.{Spent, Reader, Writer, Told}
 use Rattle.ft_shared.specs.Layout.{current_word, pin_at, segment_at}
-use Rattle.ft_shared.specs.Counts.{bit, total, pass_sum, has_number, grip, grip_of, holders, IsBehind, pin_of, pin_word, pin_amount}
+use Rattle.ft_shared.specs.Counts.{bit, total, pass_sum, one, has_number, grip, grip_of, holders, IsBehind, pin_of, pin_word, pin_amount}
 use Rattle.ft_shared.specs.History.{placed_at, place_of, HasRead}
-use Rattle.ft_shared.specs.Account.{slot_at, hold_of, account_of, SlotsAreMet, pinned_root, pin_answer, after_pin_scan, IsPinAnswer, IsPinMet, IsAnswered}
+use Rattle.ft_shared.specs.Account.{slot_at, hold_of, account_of, SlotsAreMet, pinned_root, pin_answer, after_pin_scan, IsPinAnswer, IsPinMet, IsAnswered, AreAllSettled, IsSettledReader}
 use Rattle.ft_shared.specs.Segments.{IsAsPlaced, IsUnwritten, IsStanding, IsKept}
 use Rattle.ft_shared.specs.Register.{TableState, SeatView, RegisterRule}
 use Rattle.ft_shared.specs.Pass.{pin_from, note_pin, note_unpin, pin_read}
 use Rattle.ft_shared.specs.Plays.{after_pin, after_unpin, after_pinned_word, IsPin, IsUnpin, IsPinnedRead, IsPinScan}
 use Rattle.ft_shared.proofs.Sums.{total-set, all_one, at-le, behind-le, bit-le, only_behind, at_most, at_most_index, pin_inside, same_pin}
 use Rattle.ft_shared.proofs.Segments.{is_there, some_is, no-answer}
+use Rattle.ft_shared.proofs.Exact.{one_counts, bit-true, total-one, settled-all}
 use Rattle.ft_shared.proofs.Readers.{all_none, stands_behind, pins_still, reader_step, same_place}
 use Rattle.ft_shared.proofs.Writes.{scan_at}
 
@@ -442,6 +443,27 @@ module _ (key : Opening) where
       (Contains-push a.pin_scan new)))
       (Contains-push_cases a.pin_scan new (pin_answer hold.notes.number channel met.0) met.1))
 
+  -- the pin word of a settled reader is that of its pin; while all are settled, each reader is
+  pin_exact : (state : TableState) (rule : RegisterRule key state) (id r c : ℕ)
+      → get_elem? state.views id ≡ some (Writer rule.account) → r < key.sizes.readers → c < key.sizes.channels
+      → ((hold : Hold) → IsSettledReader rule.account r hold
+      → get_or state.words (pin_at key.sizes r c) 0 ≡ pin_word (pin_of hold.notes c))
+      × (AreAllSettled rule.account → (hold : Hold) × IsSettledReader rule.account r hold)
+  pin_exact state rule id r c at lr lc = (
+    λ hold s. rule.pins r c lr lc ∙ ((λ i. total (pass_sum (pin_amount (sym s.1 i) c)) state.views)
+        ∙ pin-only state rule id (Writer rule.account) hold at s.0 c),
+    λ all.
+        let n : rule.account.sizes.readers ≡ key.sizes.readers = ap (λ (z : Sizes). z.readers) rule.told in
+        let o = total-one rule.account.settled in
+        let few = rule.count in
+        let l = at-le (pass_sum one) state.views id (Writer rule.account) at in
+        let there : bit (nat_lt r rule.account.given) ≡ 1 = ap bit (lt-ltb r rule.account.given (omega arith)) in
+        let sum = settled-all key state rule id at all (has_number r) in
+        let num = rule.numbers r in
+        let it = one_counts (has_number r) rule.account.settled (omega arith) in
+        (it.0, (it.1, true-eqb (it.0).notes.number r (sym (bit-true ((it.0).notes.number == r) it.2)))),
+  )
+
   pub pin_scans : (slots id r c : ℕ) (me : SeatView) → me.0 ≡ Writer (account_of me.0)
       → SlotsAreMet (account_of me.0).sizes (account_of me.0) → r < (account_of me.0).sizes.readers → c < (account_of me.0).sizes.channels
       → Allows (RegisterRule key) slots id me (pin_at (account_of me.0).sizes r c) (λ n. n)
@@ -469,7 +491,11 @@ module _ (key : Opening) where
       let did = subst F (sym sizes) (λ l m s. (
         subst R (sym same.0) (λ t q. pin_scanned_at state rule id r c t same.1 q l m) at' s,
         pin-small state rule r c l m,
-      )) lr lc met in (
+      )) lr lc met in
+      let G : Sizes × Account → Type 0 = λ z. get_elem? state.views id ≡ some (Writer z.1) → r < z.0.readers → c < z.0.channels
+      → ((hold : Hold) → IsSettledReader z.1 r hold → get_or state.words (pin_at z.0 r c) 0 ≡ pin_word (pin_of hold.notes c))
+      × (AreAllSettled z.1 → (hold : Hold) × IsSettledReader z.1 r hold) in
+      let exact = subst G (λ j. (sym sizes j, sym same.0 j)) (λ t l m. pin_exact state rule id r c t l m) at' lr lc in (
         Writer (after_pin_scan e r c w),
         keeps,
         tt,
@@ -478,8 +504,13 @@ module _ (key : Opening) where
           homes = state.homes;
           views = set state.views id (Writer (after_pin_scan e r c w));
         }) (sym (set-get_or state.words i 0)) did.0,
-        λ r2 c2 l2 x. let one = same_pin r r2 c c2 e.sizes.channels lc l2 (row e.sizes r c r2 c2 x) in
-            ((λ j. (Writer (after_pin_scan e (one.0 j) (one.1 j) w), me.1)), did.1),
+        λ r2 c2 l2 x. let one = same_pin r r2 c c2 e.sizes.channels lc l2 (row e.sizes r c r2 c2 x) in (
+          (λ j. (Writer (after_pin_scan e (one.0 j) (one.1 j) w), me.1)),
+          did.1,
+          subst (λ (z : ℕ × ℕ). (hold : Hold) → IsSettledReader e z.0 hold → w ≡ pin_word (pin_of hold.notes z.1))
+              (λ j. (one.0 j, one.1 j)) exact.0,
+          subst (λ (k : ℕ). AreAllSettled e → (hold : Hold) × IsSettledReader e k hold) one.0 exact.1,
+        ),
       )
     where
       row : (z : Sizes) (r c r2 c2 : ℕ) → pin_at z r c ≡ pin_at z r2 c2 → r * z.channels + c ≡ r2 * z.channels + c2

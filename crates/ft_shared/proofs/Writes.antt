@@ -1,5 +1,5 @@
 -- The writer's steps keep the rule.
-use Rattle.std.proofs.Common.{nat_lt, replicate, Option, inl, ◌⊎◌, zero, suc, Bool, true, false, cond, false-eqb, true-eqb, lt-ltb, le-ltb, eq-eqb, ◌==◌, ◌≡◌, ◌≢◌, ℕ, ◌+◌, ◌<◌, ◌≤◌, List, [], ◌∷◌, ◌++◌, length, get_or, set, sym, refl, ap, ◌∙◌, subst, ⊎_elim, arith, Some, None, All, slice_index_or, length-set, length-append, get_or-set_other, get_or-set_same}
+use Rattle.std.proofs.Common.{nat_lt, replicate, Option, inl, ◌⊎◌, ◌↔◌, IsSome, zero, suc, Bool, true, false, cond, false-eqb, true-eqb, lt-ltb, le-ltb, eq-eqb, ◌==◌, ◌≡◌, ◌≢◌, ℕ, ◌+◌, ◌<◌, ◌≤◌, List, [], ◌∷◌, ◌++◌, length, get_or, set, sym, refl, ap, ◌∙◌, subst, ⊎_elim, arith, Some, None, All, slice_index_or, length-set, length-append, get_or-set_other, get_or-set_same}
 use Rattle.std.proofs.lemmas.List.{get_or_append_left, get_or_push}
 use mathlib.Core.Option.{none, some}
 use mathlib.Core.Logic.{dite}
@@ -21,12 +21,13 @@ use Rattle.ft_shared.specs.declared.law.View.TheVariants.{Spent, Reader, Writer,
 use Rattle.ft_shared.specs.Layout.{current_word}
 use Rattle.ft_shared.specs.Counts.{total, sum_below, pass_sum, one, has_number, grip_of, holders, IsBehind, pin_word, pin_amount}
 use Rattle.ft_shared.specs.History.{HasVersion, HasTakenVersion, HasRead, Agrees}
-use Rattle.ft_shared.specs.Account.{slot_at, no_slot, account_of, new_notes, is_free, answer_of, after_begin, after_scan}
+use Rattle.ft_shared.specs.Account.{slot_at, no_slot, account_of, new_notes, is_free, answer_of, AreAllSettled, IsHeldSlot, IsBorne, after_begin, after_scan}
 use Rattle.ft_shared.specs.Segments.{ArePinsScanned, slot_answer}
 use Rattle.ft_shared.specs.Register.{TableState, SeatView, Stands, Fits, amount, scan_count, marks, RegisterRule}
 use Rattle.ft_shared.specs.Plays.{after_give, given_pass, IsScanBegin, IsSlotScan}
 use Rattle.ft_shared.proofs.Sums.{total-set, total-append, set-keeps, numbers-more, amount-le, amount-new, amount-here, amount-scan, amount-met, ltb-next, sum_below-le, holding-sum_below}
 use Rattle.ft_shared.proofs.Segments.{no-answer, segments_still, segments_seat, segments_more}
+use Rattle.ft_shared.proofs.Exact.{slot_exact}
 use Rattle.ft_shared.proofs.Readers.{fewer}
 
 none_some : {A : Type 0} (x : A) → None ≡ Some x → ⊥
@@ -440,7 +441,14 @@ module _ (key : Opening) where
       let known = subst (λ (z : Account). length z.scan < z.sizes.readers + 2 → HasVersion z.history (slot_at z (length z.scan)).version)
       (sym same.0)
       (λ l. rule.segments.borne (length rule.account.scan) (let n = ap (λ (z : Sizes). z.readers) rule.told in omega arith)) less in
-      let did = subst R (sym same.0) (λ t b l. scanned_at state rule id t same.1 b l) at' begun less in (
+      let did = subst R (sym same.0) (λ t b l. scanned_at state rule id t same.1 b l) at' begun less in
+      let n : rule.account.sizes.readers ≡ key.sizes.readers = ap (λ (z : Sizes). z.readers) rule.told in
+      let borne : All (IsBorne e) e.settled = subst (λ (z : Account). All (IsBorne z) z.settled) (sym same.0)
+      (λ i x l taken held. let b = (rule.settled i x l).borne taken held in let inside = b.0 in (omega arith, b.1)) in
+      let X : Account → Type 0 = λ z. get_elem? state.views id ≡ some (Writer z) → length z.scan < z.sizes.readers + 2 → AreAllSettled z
+      → IsSome (answer_of z (length z.scan) (get_or state.words (length z.scan + 1) 0))
+      ↔ ((length z.scan ≡ z.slot) ⊎ IsHeldSlot z (length z.scan)) in
+      let exact = subst X (sym same.0) (λ t l. slot_exact key state rule id t (omega arith)) at' less in (
         Writer (after_scan e (get_or state.words (length e.scan + 1) 0)),
         keeps,
         tt,
@@ -450,5 +458,5 @@ module _ (key : Opening) where
           views = set state.views id (Writer (after_scan e (get_or state.words (length e.scan + 1) 0)));
         })
             (sym (set-get_or state.words (length e.scan + 1) 0)) did.0,
-        (refl, did.1, did.2, known, refl),
+        (refl, did.1, did.2, known, refl, borne, exact),
       )

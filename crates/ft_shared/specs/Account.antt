@@ -1,9 +1,10 @@
 -- What the writer and the readers know at first, and what the writer's steps make of it.
-use Rattle.std.specs.Prelude.{◌≡◌, ◌⊎◌, ℕ, ◌+◌, ◌-◌, ◌*◌, ◌<◌, ◌≤◌, ◌==◌, slice_set, slice_index_or, Bool, true, false, if◌then◌else◌, List, [], ◌∷◌, ◌++◌, length, drop, replicate, Option, Some, None, Contains}
+use Rattle.std.specs.Prelude.{◌≡◌, ◌⊎◌, ℕ, ◌+◌, ◌-◌, ◌*◌, ◌<◌, ◌≤◌, ◌==◌, slice_get, slice_set, slice_index_or, Bool, true, false, if◌then◌else◌, List, [], ◌∷◌, ◌++◌, length, drop, replicate, Option, Some, None, Contains}
 use Rattle.ft_shared.specs.declared.law.Sizes.{Sizes}
 use Rattle.ft_shared.specs.declared.law.Opening.{Opening}
 use Rattle.ft_shared.specs.declared.law.PinAnswer.{PinAnswer}
 use Rattle.ft_shared.specs.declared.law.Notes.{Notes}
+use Rattle.ft_shared.specs.declared.law.TakenVersion.{TakenVersion}
 use Rattle.ft_shared.specs.declared.law.Hold.{Hold}
 use Rattle.ft_shared.specs.declared.law.Slot.{Slot}
 use Rattle.ft_shared.specs.declared.law.Account.{Account}
@@ -105,11 +106,61 @@ told_or default _ = default
 abbrev pub told_of : View → ToldVersion
 told_of view = told_or (record { sizes = no_sizes; version = 0 }) view
 
--- ---- notes
+-- ---- notes, and settled passes
 
 -- a note of the current version was made, by one load of CURRENT
 abbrev pub after_note : Account → Account
 after_note account = record account { steps = account.steps ++ Load current_at ∷ [] }
+
+-- a reader gave up its pass, which held and had noted this; by two loads of CURRENT
+abbrev pub after_settle : Account → Hold → Account
+after_settle account hold = record account {
+  settled = hold ∷ account.settled;
+  steps = account.steps ++ Load current_at ∷ Load current_at ∷ [];
+}
+
+-- the first of these two, by which the writer's seat takes in the reader's
+abbrev pub after_join : Account → Hold → Account
+after_join account hold = record account {
+  settled = hold ∷ account.settled;
+  steps = account.steps ++ Load current_at ∷ [];
+}
+
+-- the second
+abbrev pub after_learning : Account → Account
+after_learning account = record account { steps = account.steps ++ Load current_at ∷ [] }
+
+-- what the pass held and had noted that was settled last and not resumed yet
+abbrev pub last_settled : Account → Option Hold
+last_settled account = slice_get account.settled 0
+
+-- that pass was given back, by one load of CURRENT
+abbrev pub after_resume : Account → Account
+after_resume account = record account {
+  settled = drop 1 account.settled;
+  steps = account.steps ++ Load current_at ∷ [];
+}
+
+-- every reader's pass is settled
+abbrev pub AreAllSettled : Account → Type 0
+AreAllSettled account = length account.settled ≡ account.sizes.readers
+
+-- A settled pass holds the version in the slot
+abbrev pub IsHeldSlot : Account → ℕ → Type 0
+IsHeldSlot account slot =
+    (hold : Hold) × (taken : TakenVersion) × Contains account.settled hold
+    × (hold.notes.held ≡ Some taken) × (hold.slot ≡ slot)
+
+-- The version that a pass holds is the one that its slot bears
+abbrev pub IsBorne : Account → Hold → Type 0
+IsBorne account hold = (taken : TakenVersion) → hold.notes.held ≡ Some taken
+    → (hold.slot < account.sizes.readers + 2)
+    × ((slot_at account hold.slot).version ≡ taken.version)
+
+-- The reader with this number is settled: it held and had noted this
+abbrev pub IsSettledReader : Account → ℕ → Hold → Type 0
+IsSettledReader account reader hold =
+    Contains account.settled hold × (hold.notes.number ≡ reader)
 
 -- ---- scans
 

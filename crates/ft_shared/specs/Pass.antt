@@ -1,5 +1,5 @@
 -- What contracts see of a register and of its passes.
-use Rattle.std.specs.Prelude.{◌≡◌, ◌≢◌, ℕ, zero, suc, ◌+◌, ◌<◌, ◌≤◌, max, true, false, slice_set, List, [], ◌∷◌, ◌++◌, Option, Some, None}
+use Rattle.std.specs.Prelude.{◌≡◌, ◌≢◌, ℕ, zero, suc, ◌+◌, ◌<◌, ◌≤◌, max, true, false, slice_set, slice_index_or, length, List, [], ◌∷◌, ◌++◌, Option, Some, None}
 use Rattle.atomic_table.specs.Seated.{TableId}
 use Rattle.ft_shared.specs.declared.law.Sizes.{Sizes}
 use Rattle.ft_shared.specs.declared.law.TakenVersion.{TakenVersion}
@@ -9,6 +9,7 @@ use Rattle.ft_shared.specs.declared.law.Notes.{Notes}
 use Rattle.ft_shared.specs.declared.law.Hold.{Hold}
 use Rattle.ft_shared.specs.declared.law.Account.{Account}
 use Rattle.ft_shared.specs.declared.law.ToldVersion.{ToldVersion}
+use Rattle.ft_shared.specs.declared.reader.KeptPass.{KeptPass}
 use Rattle.ft_shared.specs.declared.law.WordStep.TheVariants.{Load, Store, Add}
 use Rattle.ft_shared.specs.Layout.{current_at, leavers_at, pin_at, segment_at}
 use Rattle.ft_shared.specs.Counts.{pin_of}
@@ -28,6 +29,10 @@ pub record ReaderState : Type 0 where
 pub record WriterState : Type 0 where
   pub register : RegisterId
   pub account : Account
+
+-- what a reader's pass holds and has noted
+abbrev pub hold_at : ReaderState → Hold
+hold_at pass = record { notes = pass.notes; slot = pass.slot }
 
 -- a note of a version
 pub record NoteState : Type 0 where
@@ -159,6 +164,31 @@ note_seen notes version = record notes { seen = max notes.seen version }
 abbrev pub note_heard : Notes → ℕ → Notes
 note_heard notes version =
     record (note_seen notes version) { steps = notes.steps ++ Load current_at ∷ [] }
+
+-- a settled pass that is given back while this version is current
+abbrev pub resumed_pass : RegisterId → Hold → ℕ → ReaderState
+resumed_pass register hold version = record {
+  register = register;
+  notes = note_seen hold.notes version;
+  slot = hold.slot;
+}
+
+-- What is kept of a settled pass beside its seat: its number, and the slot of the version that it
+-- took last
+pub record IsKeptPass (sizes : Sizes) (hold : Hold) (kept : KeptPass) : Type 0 where
+  pub told : hold.notes.sizes ≡ sizes
+  pub slot : (hold.slot ≡ kept.slot) × (kept.slot < sizes.readers + 2)
+  pub number : (hold.notes.number ≡ kept.number) × (kept.number < sizes.readers)
+
+abbrev pub no_pass : KeptPass
+no_pass = record { slot = 0; number = 0 }
+
+-- The passes are kept in the order in which they were settled
+abbrev pub AreKept : Sizes → List KeptPass → List Hold → Type 0
+AreKept sizes kept [] = Unit {0}
+AreKept sizes kept (hold ∷ holds) =
+    IsKeptPass sizes hold (slice_index_or kept (length holds) no_pass)
+    × AreKept sizes kept holds
 
 -- A publish: it chose the first slot that was found free, and kept how many passes had taken the
 -- version before. It is one store to the leavers of that slot, and one swap of CURRENT.

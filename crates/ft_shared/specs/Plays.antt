@@ -1,6 +1,6 @@
 -- What each kind of step tells the seat that makes it: of the step, the seat before, the number
 -- found and the seat after.
-use Rattle.std.specs.Prelude.{◌≡◌, ◌≢◌, ℕ, ◌+◌, ◌<◌, ◌≤◌, true, IsNone}
+use Rattle.std.specs.Prelude.{◌≡◌, ◌≢◌, ◌⊎◌, ◌↔◌, IsSome, ℕ, ◌+◌, ◌<◌, ◌≤◌, true, IsNone, List, [], ◌∷◌, length, All}
 use Rattle.atomic_table.specs.Table.{Step, Allows}
 use Rattle.atomic_table.specs.Seated.{TableId}
 use Rattle.ft_shared.specs.declared.law.Opening.{Opening}
@@ -9,11 +9,11 @@ use Rattle.ft_shared.specs.declared.law.View.{View}
 use Rattle.ft_shared.specs.declared.law.View.TheVariants.{Spent, Reader, Writer, Told}
 use Rattle.ft_segments.specs.Packing.{word_at}
 use Rattle.ft_shared.specs.Layout.{current_at, leavers_at, pin_at, segment_at, version_in, slot_in, root_in, count_in}
-use Rattle.ft_shared.specs.Counts.{sum_below, pin_of}
-use Rattle.ft_shared.specs.History.{placed_at, HasVersion}
-use Rattle.ft_shared.specs.Account.{hold_of, account_of, slot_at, next_slot, is_free, new_notes, after_note, after_begin, after_scan, after_pin_scan, after_read, after_fill, after_clear, after_publish}
+use Rattle.ft_shared.specs.Counts.{sum_below, pin_of, pin_word}
+use Rattle.ft_shared.specs.History.{placed_at, HasVersion, Agrees}
+use Rattle.ft_shared.specs.Account.{hold_of, account_of, slot_at, next_slot, is_free, answer_of, AreAllSettled, IsHeldSlot, IsBorne, IsSettledReader, new_notes, after_note, after_join, after_learning, after_resume, after_begin, after_scan, after_pin_scan, after_read, after_fill, after_clear, after_publish}
 use Rattle.ft_shared.specs.Register.{SeatView, RegisterRule, marks}
-use Rattle.ft_shared.specs.Pass.{note_look, note_take, note_leave, note_word, note_heard, pin_from, note_pin, note_unpin, note_pinned_word}
+use Rattle.ft_shared.specs.Pass.{note_look, note_take, note_leave, note_word, note_seen, note_heard, pin_from, note_pin, note_unpin, note_pinned_word}
 
 -- what a kind of step says of itself, the seat before, the number found and the seat after
 abbrev pub StepKind : Type 1
@@ -109,7 +109,8 @@ IsScanBegin step before found after =
     × (step.word ≡ current_at)
 
 -- the slot's version is in the history, a slot that was found free before is found free again, and
--- a whole scan finds at most as many slots held as there are readers
+-- a whole scan finds at most as many slots held as there are readers; the versions of settled passes
+-- are those of their slots, and while all are settled a slot is answered that is current or held
 abbrev pub IsSlotScan : StepKind
 IsSlotScan step before found after =
     (after ≡ (Writer (after_scan (account_of before.0) found), before.1))
@@ -122,6 +123,11 @@ IsSlotScan step before found after =
     × HasVersion (account_of before.0).history
     (slot_at (account_of before.0) (next_slot (account_of before.0))).version
     × (step.word ≡ leavers_at (next_slot (account_of before.0)))
+    × All (IsBorne (account_of before.0)) (account_of before.0).settled
+    × (AreAllSettled (account_of before.0)
+    → IsSome (answer_of (account_of before.0) (next_slot (account_of before.0)) found)
+    ↔ ((next_slot (account_of before.0) ≡ (account_of before.0).slot)
+    ⊎ IsHeldSlot (account_of before.0) (next_slot (account_of before.0))))
 
 -- the slot is not the current one
 abbrev pub IsClear : StepKind
@@ -142,13 +148,18 @@ IsPublish step before found after =
     × IsNone (placed_at (account_of before.0).history ((account_of before.0).version + 1))
     × (step.word ≡ current_at)
 
--- the word that was found is 0, or a root segment + 1
+-- the word that was found is 0, or a root segment + 1, and that of the reader's pin where the reader
+-- is settled
 abbrev pub IsPinScan : StepKind
 IsPinScan step before found after = (reader channel : ℕ)
     → channel < (account_of before.0).sizes.channels
     → step.word ≡ pin_at (account_of before.0).sizes reader channel
     → (after ≡ (Writer (after_pin_scan (account_of before.0) reader channel found), before.1))
     × (found ≤ 65536)
+    × ((hold : Hold) → IsSettledReader (account_of before.0) reader hold
+    → found ≡ pin_word (pin_of hold.notes channel))
+    × (AreAllSettled (account_of before.0)
+    → (hold : Hold) × IsSettledReader (account_of before.0) reader hold)
 
 -- the word that was found is the one last written there
 abbrev pub IsPoolRead : StepKind
@@ -161,6 +172,17 @@ abbrev pub IsFill : StepKind
 IsFill step before found after = (segment at : ℕ) → at < 256
     → step.word ≡ segment_at (account_of before.0).sizes segment at
     → after ≡ (Writer (after_fill (account_of before.0) segment at step.first), before.1)
+
+-- it learns that its history agrees with what each settled pass has noted; of these there are at
+-- most eight
+abbrev pub IsLearning : StepKind
+IsLearning step before found after =
+    (after ≡ (Writer (after_learning (account_of before.0)), before.1))
+    × (version_in found ≡ (account_of before.0).version)
+    × All (λ hold. Agrees (account_of before.0).history hold.notes)
+    (account_of before.0).settled
+    × (length (account_of before.0).settled ≤ 8)
+    × (step.word ≡ current_at)
 
 -- ---- a seat for a reader
 
@@ -193,3 +215,26 @@ after_hear hold version = record hold { notes = note_heard hold.notes version }
 abbrev pub heard : View → View → View
 heard (Reader hold) (Told told) = Reader (after_hear hold told.version)
 heard view note = view
+
+-- ---- settled passes
+
+-- the writer's seat takes in that of a reader
+abbrev pub joined : View → View → View
+joined (Writer account) (Reader hold) = Writer (after_join account hold)
+joined view pass = view
+
+-- the writer's seat gives back that which it took in last
+abbrev pub after_giving_back : View → View
+after_giving_back (Writer account) = Writer (after_resume account)
+after_giving_back view = view
+
+abbrev pub resumed_hold : Hold → ℕ → Hold
+resumed_hold hold version = record hold { notes = note_seen hold.notes version }
+
+abbrev pub first_back : List Hold → ℕ → View
+first_back [] version = Spent
+first_back (hold ∷ holds) version = Reader (resumed_hold hold version)
+
+abbrev pub given_back : View → View
+given_back (Writer account) = first_back account.settled account.version
+given_back view = Spent

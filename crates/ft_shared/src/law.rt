@@ -160,7 +160,8 @@ pub struct Account {
     pub pin_scan: [PinAnswer; 0],
     /// The word that the latest look at a pin has loaded: 0, or a root segment + 1.
     pub pinned: u64,
-    /// What the readers held and had noted that have given up their passes.
+    /// What the readers held and had noted that have given up their passes, the one that was
+    /// settled last first.
     pub settled: [Hold; 0],
     /// The versions from the opening on.
     pub history: [PlacedVersion; 0],

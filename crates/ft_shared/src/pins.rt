@@ -1,8 +1,9 @@
 //! A reader pins a sample of the version that it holds, and goes on reading it when it has left
 //! that version; the writer looks at the pins.
 ghost use Rattle.std.specs.Prelude.{◌≡◌, ◌+◌, ◌<◌, ◌≤◌, IsSome, IsNone};
-ghost use Rattle.ft_shared.specs.Counts.{pin_of};
-ghost use Rattle.ft_shared.specs.Account.{SlotsAreMet, pinned_root, after_pin_scan};
+ghost use Rattle.ft_shared.specs.declared.law.Hold.{Hold};
+ghost use Rattle.ft_shared.specs.Counts.{pin_of, pin_word};
+ghost use Rattle.ft_shared.specs.Account.{SlotsAreMet, AreAllSettled, IsSettledReader, pinned_root, after_pin_scan};
 ghost use Rattle.ft_shared.specs.Pass.{pin_from, note_pin, note_unpin, note_pinned_word};
 
 use crate::plays::{Pinned, ReadPinned, ScanPin, SetPin, Unpin};
@@ -93,6 +94,8 @@ impl Shared {
 
     /// The root segment of the pin that the reader with this number has on a channel, and `None`
     /// where it has none. All slots must have been looked at. One load.
+    ///
+    /// Where the reader's pass is settled, that is exactly the pin which it has.
     pub fn scan_pin(&self, pass: &mut WriterPass, reader: u8, channel: u8) -> Option<u16>
         requires same { pass.old.register ≡ self.now }
         requires slots { SlotsAreMet self.now.sizes pass.old.account }
@@ -102,6 +105,11 @@ impl Shared {
           account = after_pin_scan pass.old.account reader channel pass.new.account.pinned;
         } }
         ensures answer { result ≡ pinned_root pass.new.account.pinned }
+        ensures settled { (hold : Hold) → IsSettledReader pass.old.account reader hold
+            → result ≡ pinned_root (pin_word (pin_of hold.notes channel)) }
+        ensures exact { AreAllSettled pass.old.account
+            → (hold : Hold) × IsSettledReader pass.old.account reader hold
+            × (result ≡ pinned_root (pin_word (pin_of hold.notes channel))) }
     {
         let word = self.pin_word_of(reader, channel);
         let pinned = self.words.scan_load::<ScanPin>(&mut pass.place, word);

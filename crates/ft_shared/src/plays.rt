@@ -1,6 +1,6 @@
 //! What each kind of step tells the seat that makes it.
 ghost use Rattle.std.specs.Prelude.{ℕ};
-ghost use Rattle.ft_shared.specs.Plays.{IsLook, IsTake, IsLeave, IsWordRead, IsPin, IsUnpin, IsPinnedRead, IsScanBegin, IsSlotScan, IsPinScan, IsPoolRead, IsFill, IsClear, IsPublish, after_give, given_pass, after_making, made_note, heard};
+ghost use Rattle.ft_shared.specs.Plays.{IsLook, IsTake, IsLeave, IsWordRead, IsPin, IsUnpin, IsPinnedRead, IsScanBegin, IsSlotScan, IsPinScan, IsPoolRead, IsFill, IsClear, IsPublish, after_give, given_pass, after_making, made_note, heard, IsLearning, joined, after_giving_back, given_back};
 ghost use Rattle.ft_shared.specs.declared.law.View.TheVariants.{Spent};
 
 use crate::law::View;
@@ -104,6 +104,33 @@ impl Join<View> for HearNote {
     ghost both = { heard };
 
     ghost spent = { Spent };
+}
+
+/// The writer's seat takes in that of a reader.
+pub(crate) struct Settle;
+
+impl Join<View> for Settle {
+    ghost both = { joined };
+
+    ghost spent = { Spent };
+}
+
+/// The writer learns of the settled passes.
+pub(crate) struct LearnSettled;
+
+impl Loads for LearnSettled {}
+
+impl Play<(), View> for LearnSettled {
+    ghost then = { IsLearning };
+}
+
+/// The writer's seat gives back that which it took in last.
+pub(crate) struct Resume;
+
+impl Split<View> for Resume {
+    ghost left = { after_giving_back };
+
+    ghost right = { given_back };
 }
 
 pub(crate) struct BeginScan;

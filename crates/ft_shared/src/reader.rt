@@ -1,7 +1,7 @@
 //! A reader: it looks at the current version, takes it, and leaves it.
 ghost use Rattle.std.specs.Prelude.{◌≡◌, ℕ, ◌≤◌, ◌<◌, ◌+◌, [], None, IsSome, IsSomeAnd};
 ghost use Rattle.ft_shared.specs.Account.{hold_of};
-ghost use Rattle.ft_shared.specs.Pass.{reader_at, note_look, note_take, note_word, note_leave};
+ghost use Rattle.ft_shared.specs.Pass.{reader_at, hold_at, IsKeptPass, note_look, note_take, note_word, note_leave};
 ghost use Rattle.ft_shared.specs.declared.law.View.TheVariants.{Reader};
 
 use crate::law::Place;
@@ -26,6 +26,15 @@ pub struct ReaderPass {
     pub(crate) place: Place,
     slot: u8,
     pub(crate) number: u8,
+}
+
+/// What the writer keeps of a settled pass beside its seat.
+#[derive(Clone, Copy)]
+pub(crate) struct KeptPass {
+    /// The slot of the version that it took last, 0 to 9; 0 before the first take.
+    pub slot: u8,
+    /// The pass's number, 0 to 7.
+    pub number: u8,
 }
 
 impl Model for ReaderPass {
@@ -53,6 +62,34 @@ impl ReaderPass {
             slot: 0,
             number,
         }
+    }
+
+    /// The pass of a seat that was settled and is given back.
+    pub(crate) fn again(place: Place, kept: KeptPass) -> ReaderPass
+        requires role { place.me ≡ (Reader (hold_of place.me.0), []) }
+        requires kept { IsKeptPass (hold_of place.me.0).notes.sizes (hold_of place.me.0) kept }
+        ensures { result ≡ reader_at place.table_id (hold_of place.me.0) }
+    {
+        ReaderPass {
+            place,
+            slot: kept.slot,
+            number: kept.number,
+        }
+    }
+
+    /// The seat of the pass, and what is to be kept beside it.
+    pub(crate) fn parts(self) -> (Place, KeptPass)
+        ensures seat { result.0.me ≡ (Reader (hold_at self), []) }
+        ensures table { (result.0.table_id ≡ self.register.table)
+            × (self.register.sizes ≡ self.notes.sizes) }
+        ensures kept { IsKeptPass self.register.sizes (hold_at self) result.1 }
+    {
+        let ReaderPass {
+            place,
+            slot,
+            number,
+        } = self;
+        (place, KeptPass { slot, number })
     }
 }
 

@@ -1,14 +1,15 @@
 //! The writer: it scans the slots for one that no reader holds, and publishes the next
 //! version in it.
-ghost use Rattle.std.specs.Prelude.{◌≡◌, ◌≢◌, ℕ, ◌+◌, ◌-◌, ◌<◌, ◌≤◌, ◌↔◌, [], ◌∷◌, ◌++◌, true, false, Some, IsNone, IsSome, IfSome, length, slice_index_or, replicate};
+ghost use Rattle.std.specs.Prelude.{◌≡◌, ◌≢◌, ◌⊎◌, All, ℕ, ◌+◌, ◌-◌, ◌<◌, ◌≤◌, ◌↔◌, [], ◌∷◌, ◌++◌, true, false, Some, IsNone, IsSome, IfSome, length, slice_index_or, replicate};
 ghost use Rattle.ft_segments.specs.Walk.{IsSound, walk};
 ghost use Rattle.ft_shared.specs.History.{placed_at, HasVersion};
-ghost use Rattle.ft_shared.specs.Account.{account_of, new_slot, slot_at, no_slot, next_slot, IsWhole, after_begin, after_scan, answer_of};
+ghost use Rattle.ft_shared.specs.Account.{account_of, new_slot, slot_at, no_slot, next_slot, IsWhole, AreAllSettled, IsHeldSlot, IsBorne, after_begin, after_scan, answer_of};
 ghost use Rattle.ft_shared.specs.Pass.{Publishes, writer_at};
 ghost use Rattle.ft_shared.specs.declared.law.View.TheVariants.{Writer};
 
 use crate::law::{Place, Slot};
 use crate::plays::{BeginScan, Clear, Publish, ScanSlot};
+use crate::reader::KeptPass;
 use crate::shared::Shared;
 use std::marker::Model;
 
@@ -20,6 +21,10 @@ pub struct WriterPass {
     pub(crate) version: u32,
     slot: u8,
     slots: [Slot; 10],
+    /// What is kept of the settled passes, the one that was settled first first.
+    pub(crate) settled: [KeptPass; 8],
+    /// How many passes are settled, 0 to 8.
+    pub(crate) many: u8,
 }
 
 impl Model for WriterPass {
@@ -41,7 +46,8 @@ impl WriterPass {
         requires version { ((account_of place.me.0).version ≡ version)
             × ((account_of place.me.0).slot ≡ 0) }
         requires slots { (account_of place.me.0).slots ≡ replicate 10 (new_slot version) }
-        requires none { (account_of place.me.0).begun ≡ false }
+        requires none { ((account_of place.me.0).begun ≡ false)
+            × ((account_of place.me.0).settled ≡ []) }
         ensures { result ≡ writer_at place.table_id (account_of place.me.0) }
     {
         let unused = Slot {
@@ -55,6 +61,8 @@ impl WriterPass {
             version,
             slot: 0,
             slots: [unused; 10],
+            settled: [KeptPass { slot: 0, number: 0 }; 8],
+            many: 0,
         }
     }
 }
@@ -72,6 +80,8 @@ impl Shared {
     /// it was found free. Slots come in ascending order. One load.
     ///
     /// A slot once found free is found free by each later scan, until a publish chooses it.
+    /// While every reader's pass is settled, the answer is a version exactly for the current
+    /// slot and for those of the versions that these passes hold.
     pub fn scan_slot(&self, pass: &mut WriterPass, slot: u8) -> Option<u32>
         requires same { pass.old.register ≡ self.now }
         requires begun { pass.old.account.begun ≡ true }
@@ -88,6 +98,9 @@ impl Shared {
           account = after_scan pass.old.account pass.new.account.gone;
         } }
         ensures answer { result ≡ answer_of pass.old.account slot pass.new.account.gone }
+        ensures borne { All (IsBorne pass.old.account) pass.old.account.settled }
+        ensures exact { AreAllSettled pass.old.account → IsSome result
+            ↔ ((slot ≡ pass.old.account.slot) ⊎ IsHeldSlot pass.old.account slot) }
     {
         let index = slot as usize;
         let gone = self.words.scan_load::<ScanSlot>(&mut pass.place, index + 1);

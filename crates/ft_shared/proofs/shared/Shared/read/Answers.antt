@@ -44,4 +44,6 @@ invariant_of-pass c =
       version = w.version;
       slot = w.slot;
       slots = w.slots;
+      settled = w.settled;
+      many = w.many;
     }) b c.pass.invariant (now ∙ ap (λ m. (Writer b, m.1)) c.pass.invariant.seat) refl

@@ -2,10 +2,12 @@ use Rattle.std.proofs.Common.{rules, refl, ap, sym, ◌∙◌, ◌≡◌, ◌<�
 use mathlib.Core.Option.{none}
 use Rattle.atomic_table.specs.Table.{Allows, step}
 use Rattle.ft_shared.specs.declared.law.Sizes.{Sizes}
+use Rattle.ft_shared.specs.Counts.{pin_of, pin_word}
+use Rattle.ft_shared.specs.declared.law.Hold.{Hold}
 use Rattle.ft_shared.specs.declared.law.Account.{Account}
 use Rattle.ft_shared.specs.declared.law.View.TheVariants.{Writer}
 use Rattle.ft_shared.specs.Layout.{pin_at, word_count}
-use Rattle.ft_shared.specs.Account.{account_of, SlotsAreMet, pinned_root, after_pin_scan}
+use Rattle.ft_shared.specs.Account.{account_of, SlotsAreMet, AreAllSettled, IsSettledReader, pinned_root, after_pin_scan}
 use Rattle.ft_shared.specs.Plays.{IsPinScan}
 use Rattle.ft_shared.specs.Register.{RegisterRule}
 use Rattle.ft_shared.proofs.Pinned.{pin_scans}
@@ -70,4 +72,19 @@ invariant_of-pass c =
       version = w.version;
       slot = w.slot;
       slots = w.slots;
+      settled = w.settled;
+      many = w.many;
     }) b c.pass.invariant (now ∙ ap (λ m. (Writer b, m.1)) c.pass.invariant.seat) refl
+
+pub returns-clause-exact : goal.returns-clause-exact
+returns-clause-exact c =
+    let a = account_of c.pass.inside.place.me.0 in
+    let sizes : a.sizes ≡ c.args.self.now.sizes = ap (λ b. b.register.sizes) c.pass.view_is ∙ ap (λ o. o.sizes) c.requires.same in
+    let word : c.pin_word_of-word.result ≡ pin_at a.sizes c.args.reader c.args.channel =
+    c.pin_word_of-word.ensures.number ∙ ap (λ (z : Sizes). pin_at z c.args.reader c.args.channel) (sym sizes) in
+    let told = c.scan_load-pinned.ensures.2 c.args.reader c.args.channel
+    (subst (λ (z : Sizes). c.args.channel < z.channels) (sym sizes) c.requires.channel) word in
+    subst (λ (z : Account). AreAllSettled z → (hold : Hold) × IsSettledReader z c.args.reader hold
+    × (c.root_in.result ≡ pinned_root (pin_word (pin_of hold.notes c.args.channel))))
+    (ap (λ b. b.account) c.pass.view_is)
+    (λ all. let it = told.3 all in (it.0, it.1, c.root_in.ensures ∙ ap pinned_root (told.2 it.0 it.1)))
