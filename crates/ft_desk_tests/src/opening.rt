@@ -1,6 +1,6 @@
 //! Pools that are too small for a song, and pools that aren't.
 
-ghost use Rattle.std.specs.Prelude.{◌≡◌, ◌≤◌};
+ghost use Rattle.std.specs.Prelude.{◌≡◌};
 
 use crate::songs::{Shape, song_of};
 use ft_desk::Desk;
@@ -9,7 +9,8 @@ use ft_types::{Module, valid};
 use std::alloc::Global;
 use std::test::Fail;
 
-const SILENT: Shape = Shape {
+/// One block.
+pub const SILENT: Shape = Shape {
     channels: 2,
     patterns: 0,
     rows: 0,
