@@ -1,10 +1,11 @@
 -- Which segments readers ask for, and what they find there.
-use Rattle.std.specs.Prelude.{◌≡◌, ℕ, zero, suc, ◌≤◌, slice_get, Option, None, Some}
+use Rattle.std.specs.Prelude.{◌≡◌, ℕ, zero, suc, ◌/◌, ◌%◌, ◌≤◌, List, slice_get, Option, None, Some}
 use Rattle.ft_types.specs.declared.module.Module.{Module}
 use Rattle.ft_types.specs.declared.pattern.Pattern.{Pattern}
 use Rattle.ft_types.specs.declared.instrument.Instrument.{Instrument}
 use Rattle.ft_types.specs.declared.sample.Sample.{Sample}
 use Rattle.ft_types.specs.Views.{instrument_at, number_in, sample_in}
+use Rattle.ft_segments.specs.Packing.{id_at}
 use Rattle.ft_segments.specs.Walk.{InstrumentIds, SampleIds, SongIds, Placed, IsOf, ids_of, pattern_walk, instrument_walk, sample_uses, sample_walk}
 use Rattle.ft_image.specs.Shown.{ShowsPattern, ShowsInstrument}
 
@@ -72,3 +73,7 @@ pub record IsRootOf (placed : Placed) (song : Module) (root : ℕ) (sample : Sam
   pub number : ℕ
   pub at : sample_root_at placed instrument number ≡ Some root
   pub is : sample_at song instrument number ≡ Some sample
+
+-- the body of a number, 1,024 frames each, that an index of a sample's root names
+abbrev pub body_at : List ℕ → ℕ → ℕ → ℕ
+body_at pool root number = id_at pool (id_at pool root 16 (number / 1024)) 0 (number % 1024)

@@ -24,7 +24,7 @@ mod writer_words;
 
 pub use image::{Image, place};
 pub use instrument_reading::{envelope, sample_root, shape};
-pub use laws::{shown_has_blocks, shown_stays, walk_is_there};
+pub use laws::{a_shown_sample_is_of_its_version, shown_has_blocks, shown_stays, walk_is_there};
 pub use pass_laws::{
     a_held_version_may_be_shown, a_history_agreed_before, a_pinned_sample_may_be_shown,
     a_written_version_may_be_shown,
@@ -32,7 +32,7 @@ pub use pass_laws::{
 pub use pass_words::PassWords;
 pub use pattern_reading::{cell, rows};
 pub use pinned_words::PinnedWords;
-pub use sample_reading::{frame, sample_head};
+pub use sample_reading::{body_of_frame, frame, frame_in, frame_word, sample_head};
 pub use slice::SliceWords;
 pub use song_reading::{head, order};
 pub use view::WordView;

@@ -1,15 +1,15 @@
 //! What a sample's segments say.
 
-ghost use Rattle.std.specs.Prelude.{◌≡◌, ◌≤◌, ◌<◌, ◌+◌, ℕ, length, slice_index_or, pos};
+ghost use Rattle.std.specs.Prelude.{◌≡◌, ◌≤◌, ◌<◌, ◌+◌, ◌*◌, ◌/◌, ℕ, length, slice_index_or, pos};
 ghost use Rattle.ft_types.specs.declared.module.Module.{Module};
 ghost use Rattle.ft_types.specs.declared.sample.Sample.{Sample};
 ghost use Rattle.ft_types.specs.Valid.{IsValidSample};
 ghost use Rattle.ft_types.specs.Views.{head_of};
 ghost use Rattle.ft_types.specs.Work as work_of;
 ghost use Rattle.ft_segments.specs.Walk.{Placed};
-ghost use Rattle.ft_image.specs.Values.{lengths_word, loop_word, tuning_word};
+ghost use Rattle.ft_image.specs.Values.{frames_word, lengths_word, loop_word, tuning_word};
 ghost use Rattle.ft_image.specs.Shown.{Shows};
-ghost use Rattle.ft_image.specs.Read.{MayShowSample, IsRootOf};
+ghost use Rattle.ft_image.specs.Read.{MayShowSample, IsRootOf, body_at};
 
 use crate::digits::{byte, quarter};
 use crate::ids::id;
@@ -49,6 +49,45 @@ pub fn sample_head<V: WordView>(view: &mut V, sample: u16) -> SampleHead
     sample_head_from(lengths, loops, tuning)
 }
 
+/// The segment of the body of the sample of a root in which the frame at a place stands. Nothing is
+/// said of a place that isn't below the frames.
+pub fn body_of_frame<V: WordView>(view: &mut V, sample: u16, place: u32) -> u16
+    ensures narrows { (p : Placed) (s : ℕ) → V.may_show view.new p s → V.may_show view.old p s }
+    ensures answer { (p : Placed) (m : Module) (x : Sample)
+        → MayShowSample V.may_show view.new p sample → Shows p m → IsRootOf p m sample x
+        → place < length x.frames → result ≡ body_at p.pool sample (place / 1024) }
+    ensures work { (V.work view.old ≤ V.work view.new) × (V.work view.new ≤ V.work view.old + 2) }
+    ensures same { V.same view.old view.new }
+{
+    let body = place / 1024;
+    if body >= 4096 {
+        return 0;
+    }
+    let index = id(view, sample, 16, (body / 1024) as u16);
+    id(view, index, 0, (body % 1024) as u16)
+}
+
+/// A word of frames by its number in its sample, four frames each, from the segment of its body.
+pub fn frame_word<V: WordView>(view: &mut V, body: u16, word: u32) -> u64
+    ensures narrows { (p : Placed) (s : ℕ) → V.may_show view.new p s → V.may_show view.old p s }
+    ensures answer { (p : Placed) (m : Module) (sample : ℕ) (x : Sample)
+        → MayShowSample V.may_show view.new p sample → Shows p m → IsRootOf p m sample x
+        → 4 * word < length x.frames → body ≡ body_at p.pool sample (word / 256)
+        → result ≡ frames_word x.frames word }
+    ensures work { (V.work view.old ≤ V.work view.new) × (V.work view.new ≤ V.work view.old + 1) }
+    ensures same { V.same view.old view.new }
+{
+    view.word(body, (word % 256) as u8)
+}
+
+/// The raw frame at a place of a sample, in its word.
+pub fn frame_in(word: u64, place: u32) -> i16
+    ensures { (x : Sample) → IsValidSample x → word ≡ frames_word x.frames (place / 4)
+        → result ≡ slice_index_or x.frames place (pos 0) }
+{
+    quarter(word, (place % 4) as u8).cast_signed()
+}
+
 /// The raw frame at a place of the sample of a root. Nothing is said of a place that isn't below
 /// the frames.
 pub fn frame<V: WordView>(view: &mut V, sample: u16, place: u32) -> i16
@@ -60,12 +99,7 @@ pub fn frame<V: WordView>(view: &mut V, sample: u16, place: u32) -> i16
         × (V.work view.new ≤ V.work view.old + work_of.frame_bound) }
     ensures same { V.same view.old view.new }
 {
-    let body = place / 1024;
-    if body >= 4096 {
-        return 0;
-    }
-    let index = id(view, sample, 16, (body / 1024) as u16);
-    let body = id(view, index, 0, (body % 1024) as u16);
-    let word = view.word(body, (place / 4 % 256) as u8);
-    quarter(word, (place % 4) as u8).cast_signed()
+    let body = body_of_frame(view, sample, place);
+    let word = frame_word(view, body, place / 4);
+    frame_in(word, place)
 }

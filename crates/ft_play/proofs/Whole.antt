@@ -1,9 +1,9 @@
 -- A tick of a song between ticks: its sound, and what it leaves.
-use Rattle.std.proofs.Common.{◌≡◌, ◌≢◌, ℕ, zero, suc, ◌+◌, ◌-◌, ◌<◌, ◌≤◌, ◌||◌, Bool, true, false, List, [], ◌∷◌, length, get_or, set, map, take, if◌then◌else◌, eqb, refl, ap, sym, subst, ◌∙◌, arith}
+use Rattle.std.proofs.Common.{◌≡◌, ◌≢◌, ℕ, zero, suc, ◌+◌, ◌-◌, ◌<◌, ◌≤◌, ◌||◌, Bool, true, false, List, [], ◌∷◌, ◌++◌, Option, option_to_list, length, get_or, set, map, take, if◌then◌else◌, eqb, refl, ap, sym, subst, ◌∙◌, arith}
 use Rattle.std.proofs.lemmas.Bool.{eq-eqb, ne_eqb, eqb-true, eqb-false, cond_both}
 use Rattle.std.proofs.lemmas.List.{length-map, length-set, length-take, get_or-set_same, get_or-set_other}
 use Rattle.ft_types.specs.declared.voice.Voice.{Voice}
-use Rattle.ft_types.specs.Views.{Shown}
+use Rattle.ft_types.specs.Views.{Owned, Shown}
 use Rattle.ft_replay.specs.declared.state.Channel.{Channel}
 use Rattle.ft_replay.specs.declared.state.Control.{Control}
 use Rattle.ft_replay.specs.State.{Lane, SequentialState, blank_channel}
@@ -12,7 +12,8 @@ use Rattle.ft_replay.specs.Tick.{seq_tick, tick_state_of}
 use Rattle.ft_replay.specs.Calls.{sounds_on}
 use Rattle.ft_replay.specs.Range.{IsBetweenTicks}
 use Rattle.ft_replay.specs.Sound.{sound_of, sound_of_voices, is_ended, voice_after, voices_after, shown_after, holds_after, lane_after}
-use Rattle.ft_replay.specs.Standing.{lanes_of, seated, emptied, IsAscending}
+use Rattle.ft_replay.specs.Standing.{lanes_of, seated, gathered, emptied, IsAscending}
+use Rattle.ft_play.specs.Mixed.{voices_of}
 use Rattle.ft_play.proofs.Sitting.{AreEmpty, are_empty, Sat, sat, back}
 use Rattle.ft_play.proofs.Joined.{sound_joined, channel_after, kept_after, voices_joined, emptied_after, home_after, shown_joined, lanes_joined}
 
@@ -80,6 +81,29 @@ joined used frames time channels voices shown p room =
       version = ap (λ (x : Shown). x.version) all.2;
       song = ap (λ (x : Shown). x.song) all.2;
     }
+
+-- ---- the voices of lanes
+
+of_lanes : (channels : List Channel) (kept : List (Option Owned)) → voices_of (lanes_of channels kept) ≡ gathered channels
+of_lanes [] kept = refl
+of_lanes (channel ∷ channels) [] = ap (λ (l : List Voice). option_to_list channel.voice ++ l) (of_lanes channels [])
+of_lanes (channel ∷ channels) (owned ∷ kept) =
+    ap (λ (l : List Voice). option_to_list channel.voice ++ l) (of_lanes channels kept)
+
+-- they are those of the list between ticks
+pub voices_there : (used : ℕ) (time : Control) (channels : List Channel) (voices : List Voice) (shown : Shown)
+    → IsBetweenTicks used time channels voices
+    → voices_of (lanes_of (seated (take used channels) voices) shown.kept) ≡ voices
+voices_there used time channels voices shown p =
+    let le = p.room in
+    let empty = take used channels in
+    let many : length empty ≡ used = omega (arith, length-take used channels) in
+    let none : AreEmpty empty = are_empty empty (λ c lt.
+    ap (λ (x : Channel). x.voice) (get_or-take channels used c blank_channel (omega arith))
+    ∙ p.seats c (omega arith)) in
+    let s = sat empty voices none (subst (λ (n : ℕ). IsAscending 0 n voices) (sym many) p.ascend) in
+    ap (λ (l : List Channel). voices_of (lanes_of l shown.kept)) s.seats ∙ of_lanes s.channels_after shown.kept
+    ∙ s.came
 
 -- ---- which channels keep something
 

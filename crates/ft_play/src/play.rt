@@ -1,14 +1,17 @@
 //! A whole tick: its state, and its sound.
 
 ghost use Rattle.std.specs.Prelude.{◌≡◌, ◌≤◌, ◌+◌, ◌*◌, ℕ, All, length, take, drop};
+ghost use Rattle.std.specs.List.{sum_by};
 ghost use Rattle.ft_types.specs.Work.{frame_bound};
-ghost use Rattle.ft_mix.specs.Mixing.{IsMixed};
+ghost use Rattle.ft_mix.specs.Mixing.{IsMixed, voice_cost};
 ghost use Rattle.ft_replay.specs.Calls as calls;
 ghost use Rattle.ft_replay.specs.Range.{IsSongInRange, IsVoiceInRange};
 ghost use Rattle.ft_replay.specs.Sound as sound;
 ghost use Rattle.ft_replay.specs.Standing.{IsAscending, sequential_of};
 ghost use Rattle.ft_replay.specs.Tick as tick;
+ghost use Rattle.ft_tick.specs.Bounds.{tick_bound};
 ghost use Rattle.ft_play.specs.Bounds.{play_bound};
+ghost use Rattle.ft_play.specs.Mixed.{voices_of};
 
 use arrayvec::ArrayVec;
 use ft_mix::mix;
@@ -44,13 +47,25 @@ fn mix_front<V: SongView>(
     ensures wide { length (V.holds view.new) ≡ length (V.holds view.old) }
     ensures work { (V.work view.old ≤ V.work view.new) × (V.work view.new ≤ V.work view.old
         + length voices.old.items * (1 + 2 * frame_bound * frames)) }
+    ensures cost { V.work view.new
+        ≤ V.work view.old + sum_by (voice_cost frames) voices.old.items }
     ensures same { V.same view.old view.new }
 {
     mix(view, voices, &mut out[..2 * frames as usize]);
 }
 
+/// Puts voices in place of others.
+fn copy_voices(from: &ArrayVec<Voice, 32>, to: &mut ArrayVec<Voice, 32>)
+    ensures { to.new.items ≡ from.now.items }
+{
+    to.clear();
+    let copied = to.try_extend_from_slice(from.as_slice());
+    prove!(copied.is_ok());
+}
+
 /// Plays the next tick: its frames, left and right in turn, are the first numbers of `out`, and the
-/// rest of `out` stays as it was. A tick has 1 to 3,750 frames.
+/// rest of `out` stays as it was. A tick has 1 to 3,750 frames. `mixed` is then the voices as the
+/// mixer was given them, at their first frame and by ascending channel.
 ///
 /// The rate is 8,000 to 48,000 frames a second. The view has the song's channels, and keeps the
 /// sample of each voice on its channel. It does so after the tick; and where it kept one exactly
@@ -59,6 +74,7 @@ pub fn play_tick<V: SongView>(
     view: &mut V,
     song: &mut SongState,
     rate: u32,
+    mixed: &mut ArrayVec<Voice, 32>,
     out: &mut [i16],
 ) -> Place
     requires wide { song.old.used ≡ length (V.holds view.old) }
@@ -76,6 +92,9 @@ pub fn play_tick<V: SongView>(
     ensures sound { (w : V.World) → V.shows view.new w → take (2 * result.frames) out.new
         ≡ (tick.seq_tick (V.shown view.old w).version (V.shown view.old w).song rate
         (sequential_of song.old (V.shown view.old w))).sound }
+    ensures mixed { (w : V.World) → V.shows view.new w → mixed.new.items
+        ≡ voices_of (tick.tick_state_of (V.shown view.old w).version (V.shown view.old w).song rate
+        (sequential_of song.old (V.shown view.old w))).state.lanes }
     ensures rest { drop (2 * result.frames) out.new ≡ drop (2 * result.frames) out.old }
     ensures many { length out.new ≡ length out.old }
     ensures kept { calls.AreVoicesKept (V.keeps view.new) song.new.voices.items }
@@ -88,9 +107,13 @@ pub fn play_tick<V: SongView>(
     ensures few_frames { result.frames ≤ 3750 }
     ensures work { (V.work view.old ≤ V.work view.new)
         × (V.work view.new ≤ V.work view.old + play_bound song.old.used result.frames) }
+    ensures cost { V.work view.new ≤ V.work view.old
+        + tick_bound song.old.used + sum_by (voice_cost result.frames) mixed.new.items }
+    ensures few_voices { length mixed.new.items ≤ song.old.used }
     ensures same { V.same view.old view.new }
 {
     let at = tick_state(view, song, rate);
+    copy_voices(&song.voices, mixed);
     mix_front(view, &mut song.voices, at.frames, out);
     at
 }

@@ -1,23 +1,18 @@
-use Rattle.std.proofs.Common.{◌∙◌, ◌/◌, refl, pos, get_or}
-use Rattle.std.specs.Int.{w16}
-use Rattle.ft_image.proofs.Samples.{root_used, sample_found, index_used, body_found, frame_fits, frame_read, signed_back}
+use Rattle.std.proofs.Common.{◌≡◌, ◌∙◌, ◌/◌, ℕ, ap, arith, rules, w16}
+use Rattle.std.specs.Prelude.{FitsSigned}
+use Rattle.std.proofs.lemmas.Int.{to_z-of_z}
+use Rattle.ft_image.specs.Read.{MayShowSample, body_at}
+use Rattle.ft_image.proofs.Samples.{sample_found}
 use Rattle.ft_image.proofs.sample_reading.frame.Goals as goal
 
 pub returns-clause-answer : goal.returns-clause-answer
 returns-clause-answer g c = λ p m x may shows of lt.
     let root = c.args.sample in
     let place = c.args.place in
-    let sample = sample_found p m root x shows of in
-    let used = root_used p root in
-    let here = may root (sample.within root used) used in
-    let in_body = c.word-word.ensures.narrows p root here in
-    let index = c.id-index.ensures.answer p (c.id-body.ensures.narrows p root in_body) in
-    let index_one = index_used p x root place c.id-index.result sample lt index in
-    let at_index = c.word-word.ensures.narrows p c.id-index.result (may c.id-index.result
-    (sample.within c.id-index.result index_one) index_one) in
-    let body = c.id-body.ensures.answer p at_index in
-    let one = body_found p x root place c.id-index.result c.id-body.result sample lt index body in
-    let word = c.word-word.ensures.answer p (may c.id-body.result (sample.within c.id-body.result one.0) one.0) ∙ one.1 in
-    let frame = frame_read x c.word-word.result (place / 4) place sample.valid word refl in
-    signed_back w16 (get_or x.frames place (pos 0)) c.cast_signed.result c.quarter.result (frame_fits x place sample.valid)
-    (c.quarter.ensures ∙ frame) c.cast_signed.ensures
+    let before : MayShowSample g.V.WordView.may_show c.body_of_frame-body.new.view p root = λ s is used. c.frame_word-word.ensures.narrows p s (may s is used) in
+    let body = c.body_of_frame-body.ensures.answer p m x before shows of lt in
+    let same : place / 1024 ≡ place / 4 / 256 = omega arith in
+    let word = c.frame_word-word.ensures.answer p m root x may shows of (omega arith)
+    (body ∙ ap (λ (b : ℕ). body_at p.pool root b) same) in
+    let fits : FitsSigned w16 c.frame_in.result = search rules in
+    to_z-of_z w16 c.frame_in.result fits ∙ c.frame_in.ensures x (sample_found p m root x shows of).valid word

@@ -7,7 +7,9 @@ use Rattle.ft_replay.specs.declared.state.Place.{Place}
 use Rattle.ft_replay.specs.Calls.{sounds_on}
 use Rattle.ft_replay.specs.Sound.{voices_after, shown_after, lane_after}
 use Rattle.ft_replay.specs.Standing.{lanes_of, seated, sequential_of}
-use Rattle.ft_play.proofs.Whole.{joined, exact_after, few_voices, tick_state, tick_place, tick_sound}
+use Rattle.ft_replay.specs.State.{SequentialState}
+use Rattle.ft_play.specs.Mixed.{voices_of}
+use Rattle.ft_play.proofs.Whole.{joined, voices_there, exact_after, few_voices, tick_state, tick_place, tick_sound}
 use Rattle.ft_play.proofs.play.play_tick.Goals as goal
 
 pub returns-clause-made : goal.returns-clause-made
@@ -74,6 +76,16 @@ returns-clause-sound g c = λ w is.
     frames t.1.state
     (ap (λ (p : Place). p.frames) (c.tick_state-at.ensures.place w m.0))
 
+pub returns-clause-mixed : goal.returns-clause-mixed
+returns-clause-mixed g c = λ w is.
+    let song = c.tick_state-at.new.song in
+    let m = c.mix_front.ensures.sound w is in
+    let t = c.tick_state-at.ensures.made w m.0 in
+    let mid : Shown = g.V.SongView.shown c.tick_state-at.new.view w in
+    c.copy_voices.ensures
+    ∙ sym (voices_there song.used song.control song.channels song.voices.items mid c.tick_state-at.ensures.range)
+    ∙ ap (λ (s : SequentialState). voices_of s.lanes) t.1.state
+
 pub returns-clause-exact : goal.returns-clause-exact
 returns-clause-exact g c = λ x d lt.
     let song = c.tick_state-at.new.song in
@@ -83,6 +95,16 @@ returns-clause-exact g c = λ x d lt.
     ∙ exact_after 0 song.used d c.tick_state-at.result.frames song.voices.items held
     c.tick_state-at.ensures.range.ascend inside (c.tick_state-at.ensures.keeps.exact x d inside)
     ∙ ap (sounds_on d) (sym c.mix_front.ensures.voices)
+
+pub returns-clause-few_voices : goal.returns-clause-few_voices
+returns-clause-few_voices g c =
+    let song = c.tick_state-at.new.song in
+    omega (
+      arith,
+      ap (λ (l : List Voice). length l) c.copy_voices.ensures,
+      few_voices 0 song.used song.voices.items (omega arith) c.tick_state-at.ensures.range.ascend,
+      c.tick_state-at.ensures.used,
+    )
 
 pub returns-clause-work : goal.returns-clause-work
 returns-clause-work g c =

@@ -1,0 +1,4 @@
+pub mod Songs
+pub mod Seats
+pub mod Behind
+pub mod BehindLaws

@@ -1,0 +1,67 @@
+-- What a player keeps for its channels, and what that is of the versions of a song.
+use Rattle.std.specs.Prelude.{◌≡◌, ℕ, List, [], ◌∷◌, ℤ, Option, Some, None}
+use Rattle.ft_types.specs.declared.voice.SampleHead.{SampleHead}
+use Rattle.ft_types.specs.Views.{Owned, begun, head_of_owned}
+use Rattle.ft_types.specs.Work.{body_of}
+use Rattle.ft_shared.specs.declared.law.Pin.{Pin}
+use Rattle.ft_image.specs.Values.{frames_word}
+use Rattle.ft_image.specs.Read.{body_at, number_at, sample_root_at}
+use Rattle.ft_player.specs.declared.seat.KeptWord.{KeptWord}
+use Rattle.ft_player.specs.declared.seat.KeptWords.{KeptWords}
+use Rattle.ft_player.specs.declared.seat.Seat.{Seat}
+use Rattle.ft_player.specs.declared.songs.Songs.{Songs}
+use Rattle.ft_player.specs.Songs.{song_at, place_at}
+
+-- ---- what a seat says
+
+abbrev pub head_in : Option Seat → Option SampleHead
+head_in None = None
+head_in (Some seat) = Some seat.head
+
+-- the pin of a channel with this seat: the sample's root, from the version of the seat
+abbrev pub pin_in : Option Seat → Option Pin
+pin_in None = None
+pin_in (Some seat) = Some (record { version = seat.version; root = seat.root })
+
+-- the numbers of the kept words, the newest first
+abbrev pub numbers_in : Option KeptWord → Option KeptWord → List ℕ
+numbers_in None older = []
+numbers_in (Some newest) None = newest.number ∷ []
+numbers_in (Some newest) (Some older) = newest.number ∷ older.number ∷ []
+
+abbrev pub numbers_of : KeptWords → List ℕ
+numbers_of words = numbers_in words.newest words.older
+
+abbrev pub words_in : Option Seat → List ℕ
+words_in None = []
+words_in (Some seat) = numbers_of seat.words
+
+-- ---- of the versions
+
+-- the sample that the seat's note began in the seat's own version
+abbrev pub owned_by : Songs → Option Seat → Option Owned
+owned_by songs None = None
+owned_by songs (Some seat) =
+    begun seat.version (song_at songs seat.version) seat.instrument seat.note
+
+-- its frames
+abbrev pub frames_in : Option Owned → List ℤ
+frames_in None = []
+frames_in (Some owned) = owned.sample.frames
+
+abbrev pub frames_by : Songs → Seat → List ℤ
+frames_by songs seat = frames_in (owned_by songs (Some seat))
+
+-- A word is that of the sample, and stands in this body of it
+pub record IsWordOf (songs : Songs) (seat : Seat) (word : KeptWord) : Type 0 where
+  pub value : word.value ≡ frames_word (frames_by songs seat) word.number
+  pub body : word.body
+      ≡ body_at (place_at songs seat.version).pool seat.root (body_of word.number)
+
+-- The seat is that of its sample: its head, its root, and its words
+pub record IsSeatOf (songs : Songs) (seat : Seat) : Type 0 where
+  pub head : head_of_owned (owned_by songs (Some seat)) ≡ Some seat.head
+  pub root : sample_root_at (place_at songs seat.version) seat.instrument
+      (number_at (song_at songs seat.version) seat.instrument seat.note) ≡ Some seat.root
+  pub newest : (word : KeptWord) → seat.words.newest ≡ Some word → IsWordOf songs seat word
+  pub older : (word : KeptWord) → seat.words.older ≡ Some word → IsWordOf songs seat word
