@@ -1,13 +1,11 @@
 -- The song of the version that a pass holds, by its words.
-use Rattle.std.proofs.Common.{◌≡◌, ℕ, Option, Some, refl, sym, ap, subst, ◌∙◌}
-use Rattle.ft_types.specs.Valid.{IsValid}
+use Rattle.std.proofs.Common.{◌≡◌, ℕ, Option, refl, sym, ap, subst, ◌∙◌}
 use Rattle.ft_segments.specs.Walk.{Placed}
-use Rattle.ft_shared.specs.declared.law.TakenVersion.{TakenVersion}
 use Rattle.ft_shared.specs.History.{place_of}
 use Rattle.ft_shared.specs.Pass.{ReaderState}
 use Rattle.ft_image.specs.Shown.{Shows}
 use Rattle.ft_image.specs.Read.{MayShowAll}
-use Rattle.ft_image.specs.Passes.{MayShowHeld, HasReadOn}
+use Rattle.ft_image.specs.Passes.{IsAmong, MayShowHeld, HasReadOn}
 use Rattle.ft_player.specs.declared.songs.SongVersion.{SongVersion}
 use Rattle.ft_player.specs.declared.songs.Songs.{Songs}
 use Rattle.ft_player.specs.Songs.{history_of, song_of, song_at, place_in, place_at}
@@ -18,6 +16,7 @@ pub record HeldSong (songs : Songs) (pass : ReaderState) (version root : ℕ) : 
   pub may : MayShowAll MayShowHeld pass (place_at songs version)
   pub shows : Shows (place_at songs version) (song_at songs version)
   pub rooted : (place_at songs version).root ≡ root
+  pub among : IsAmong pass.register.sizes.segments (place_at songs version)
   pub channels : (song_at songs version).channels ≡ pass.register.sizes.channels
 
 -- by its version
@@ -44,6 +43,7 @@ held_by songs pass version root holds stands =
       ));
       shows = subst (λ (o : Option SongVersion). Shows (place_in o) (song_of o)) (sym h.found) h.shown.shows;
       rooted = ap (λ (p : Placed). p.root) place ∙ h.root;
+      among = subst (λ (p : Placed). IsAmong pass.register.sizes.segments p) (sym place) h.shown.among;
       channels = ap (λ (o : Option SongVersion). (song_of o).channels) h.found ∙ h.shown.channels;
     }
 

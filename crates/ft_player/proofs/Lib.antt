@@ -1,2 +1,6 @@
+mod Beginning
 mod Held
+mod Played
 mod Ranged
+mod Refills
+mod Seated

@@ -1,5 +1,5 @@
 -- What is read of a valid song is in range.
-use Rattle.std.proofs.Common.{◌≡◌, ℕ, zero, suc, ◌*◌, ◌+◌, ◌<◌, ◌≤◌, ◌==◌, if◌then◌else◌, List, Bool, true, false, Option, None, Some, length, get_or, IfSome, refl, sym, ap, subst, ◌∙◌, arith, ℤ, pos}
+use Rattle.std.proofs.Common.{◌≡◌, ℕ, zero, suc, ◌*◌, ◌+◌, ◌<◌, ◌≤◌, ◌==◌, if◌then◌else◌, List, Bool, true, false, Option, None, Some, length, get_or, IfSome, refl, subst, arith, pos}
 use Rattle.std.specs.Prelude.{All, FitsSigned, slice_get, nat_lt, unwrap_or}
 use Rattle.std.proofs.lemmas.Option.{slice_get_within, get_or_from_slice_get}
 use Rattle.ft_types.specs.declared.module.Module.{Module}

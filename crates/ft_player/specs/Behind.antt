@@ -14,7 +14,7 @@ use Rattle.ft_player.specs.declared.seat.Seat.{Seat}
 use Rattle.ft_player.specs.declared.songs.SongVersion.{SongVersion}
 use Rattle.ft_player.specs.declared.songs.Songs.{Songs}
 use Rattle.ft_player.specs.Songs.{history_of, song_at}
-use Rattle.ft_player.specs.Seats.{owned_by, IsSeatOf}
+use Rattle.ft_player.specs.Seats.{owned_by, IsSeated}
 
 -- ---- what may stand behind a pass
 
@@ -46,8 +46,7 @@ shown_by songs number seats = record {
 -- Whatever may stand behind the pass, each seat is that of its sample
 abbrev pub AreSeated : ReaderState → List (Option Seat) → Type 0
 AreSeated pass seats =
-    (songs : Songs) (channel : ℕ) (seat : Seat) → Stands songs pass
-    → get_or seats channel None ≡ Some seat → IsSeatOf songs seat
+    (songs : Songs) (channel : ℕ) → Stands songs pass → IsSeated songs (get_or seats channel None)
 
 -- ---- what playing leaves of a pass
 

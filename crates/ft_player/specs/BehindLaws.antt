@@ -1,28 +1,28 @@
 -- Laws of what may stand behind a player.
-use Rattle.std.proofs.Common.{◌≡◌, ℕ, zero, suc, ◌<◌, ◌==◌, eqb, if◌then◌else◌, List, [], ◌∷◌, ◌++◌, Bool, true, false, Option, None, Some, length, map, get_or, set, is_some, refl, sym, ap, subst, ◌∙◌, append-nil, append_assoc, arith}
+use Rattle.std.proofs.Common.{◌≡◌, ℕ, zero, suc, ◌==◌, if◌then◌else◌, List, [], ◌∷◌, ◌++◌, Bool, true, false, Option, None, Some, length, map, get_or, is_some, refl, sym, ap, subst, ◌∙◌, append-nil, append_assoc, arith}
 use Rattle.std.specs.Prelude.{All, IsSomeAnd}
-use Rattle.std.proofs.lemmas.List.{length-map, map-set}
+use Rattle.std.proofs.lemmas.List.{length-map}
 use Rattle.std.proofs.lemmas.List.Elements.{All-tail}
 use Rattle.std.proofs.lemmas.Option.{none-some, same_Some}
 use Rattle.ft_types.specs.declared.voice.SampleHead.{SampleHead}
 use Rattle.ft_types.specs.Valid.{IsValid}
 use Rattle.ft_types.specs.Views.{head_of_owned}
 use Rattle.ft_shared.specs.declared.law.PlacedVersion.{PlacedVersion}
-use Rattle.ft_shared.specs.declared.law.Sizes.{Sizes}
 use Rattle.ft_shared.specs.declared.law.TakenVersion.{TakenVersion}
 use Rattle.ft_shared.specs.History.{placed_at}
-use Rattle.ft_shared.specs.Pass.{ReaderState}
+use Rattle.ft_shared.specs.Pass.{RegisterId, ReaderState}
 use Rattle.ft_image.specs.Passes.{HasReadOn}
 use Rattle.ft_player.specs.declared.seat.Seat.{Seat}
 use Rattle.ft_player.specs.declared.songs.SongVersion.{SongVersion}
 use Rattle.ft_player.specs.declared.songs.Songs.{Songs}
 use Rattle.ft_player.specs.Songs.{placed_of, history_of, version_in, version_at, song_of, song_at}
 use Rattle.ft_player.specs.Seats.{head_in, words_in, owned_by}
-use Rattle.ft_player.specs.Behind.{IsShown, Stands, AreSeated, HasPlayedOn, after_play, shown_by}
+use Rattle.ft_player.specs.Behind.{IsShown, Stands, AreSeated, HasPlayedOn, after_play}
 
 -- ---- versions by their numbers
 
-picked : (b : Bool) (v : SongVersion) (placed : PlacedVersion) (o : Option SongVersion) (p : Option PlacedVersion)
+picked : (b : Bool) (v : SongVersion) (placed : PlacedVersion) (o : Option SongVersion)
+    (p : Option PlacedVersion)
     → (if b then Some v.placed else p) ≡ Some placed
     → (p ≡ Some placed → (x : SongVersion) × (o ≡ Some x) × (x.placed ≡ placed))
     → (x : SongVersion) × ((if b then Some v else o) ≡ Some x) × (x.placed ≡ placed)
@@ -44,11 +44,13 @@ kept_of true v x o P e here rest = subst P (same_Some v x e) here
 kept_of false v x o P e here rest = rest e
 
 -- what holds of all versions holds of that of a number
-pub each_version : (P : SongVersion → Type 0) (versions : List SongVersion) (number : ℕ) (x : SongVersion)
+pub each_version : (P : SongVersion → Type 0) (versions : List SongVersion) (number : ℕ)
+    (x : SongVersion)
     → All P versions → version_in versions number ≡ Some x → P x
 each_version P [] number x all e = absurd (none-some x e)
 each_version P (v ∷ versions) number x all e =
-    kept_of (v.placed.version == number) v x (version_in versions number) P e (all 0 v (omega arith))
+    kept_of (v.placed.version == number) v x (version_in versions number) P e
+    (all 0 v (omega arith))
     (each_version P versions number x (All-tail P v versions all))
 
 -- the version that a pass holds is one that is shown
@@ -87,13 +89,16 @@ valid songs pass taken stands held =
     let h = held_version songs pass taken stands held in
     subst (λ (o : Option SongVersion). IsValid (song_of o)) (sym h.found) h.shown.shows.valid
 
-pub channels : (songs : Songs) (pass : ReaderState) (taken : TakenVersion)
+pub channels : (songs : Songs) (pass : ReaderState) (register : RegisterId) (taken : TakenVersion)
     (seats : List (Option Seat))
-    → Stands songs pass → pass.notes.held ≡ Some taken → length seats ≡ pass.register.sizes.channels
+    → Stands songs pass → pass.register ≡ register → pass.notes.held ≡ Some taken
+    → length seats ≡ register.sizes.channels
     → (song_at songs taken.version).channels ≡ length (map (is_some {T = Seat}) seats)
-channels songs pass taken seats stands held many =
+channels songs pass register taken seats stands here held many =
     let h = held_version songs pass taken stands held in
-    ap (λ (o : Option SongVersion). (song_of o).channels) h.found ∙ h.shown.channels ∙ sym many
+    ap (λ (o : Option SongVersion). (song_of o).channels) h.found ∙ h.shown.channels
+    ∙ ap (λ (r : RegisterId). r.sizes.channels) here
+    ∙ sym many
     ∙ sym (length-map seats (is_some {T = Seat}))
 
 pub wide : (songs : Songs) (seats : List (Option Seat))
@@ -123,13 +128,14 @@ pub seat_of : (o : Option Seat) (h : SampleHead) → head_in o ≡ Some h
 seat_of None h e = absurd (none-some h e)
 seat_of (Some seat) h e = (seat, refl, same_Some seat.head h e)
 
-pub of_head : (songs : Songs) (pass : ReaderState) (seats : List (Option Seat)) (c : ℕ) (h : SampleHead)
+pub of_head : (songs : Songs) (pass : ReaderState) (seats : List (Option Seat)) (c : ℕ)
+    (h : SampleHead)
     → AreSeated pass seats → Stands songs pass → head_in (get_or seats c None) ≡ Some h
     → head_of_owned (get_or (map (owned_by songs) seats) c None) ≡ Some h
 of_head songs pass seats c h seated stands e =
     let s = seat_of (get_or seats c None) h e in
     ap head_of_owned (owned_at songs seats c ∙ ap (owned_by songs) s.1)
-    ∙ (seated songs c s.0 stands s.1).head
+    ∙ (seated songs c stands s.0 s.1).head
     ∙ ap (λ (x : SampleHead). Some x) s.2
 
 pub held : (seats : List (Option Seat)) (c : ℕ) (h : SampleHead)

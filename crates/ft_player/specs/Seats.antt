@@ -1,5 +1,5 @@
 -- What a player keeps for its channels, and what that is of the versions of a song.
-use Rattle.std.specs.Prelude.{◌≡◌, ℕ, List, [], ◌∷◌, ℤ, Option, Some, None}
+use Rattle.std.specs.Prelude.{◌≡◌, ◌⊎◌, ℕ, List, [], ◌∷◌, ℤ, Option, Some, None}
 use Rattle.ft_types.specs.declared.voice.SampleHead.{SampleHead}
 use Rattle.ft_types.specs.Views.{Owned, begun, head_of_owned}
 use Rattle.ft_types.specs.Work.{body_of}
@@ -36,6 +36,11 @@ abbrev pub words_in : Option Seat → List ℕ
 words_in None = []
 words_in (Some seat) = numbers_of seat.words
 
+-- with other kept words
+abbrev pub reworded : KeptWords → Option Seat → Option Seat
+reworded words None = None
+reworded words (Some seat) = Some (record seat { words = words })
+
 -- ---- of the versions
 
 -- the sample that the seat's note began in the seat's own version
@@ -52,6 +57,10 @@ frames_in (Some owned) = owned.sample.frames
 abbrev pub frames_by : Songs → Seat → List ℤ
 frames_by songs seat = frames_in (owned_by songs (Some seat))
 
+-- A word is kept: as the last one or as the one before it
+abbrev pub IsKept : KeptWords → KeptWord → Type 0
+IsKept words word = (words.newest ≡ Some word) ⊎ (words.older ≡ Some word)
+
 -- A word is that of the sample, and stands in this body of it
 pub record IsWordOf (songs : Songs) (seat : Seat) (word : KeptWord) : Type 0 where
   pub value : word.value ≡ frames_word (frames_by songs seat) word.number
@@ -63,5 +72,7 @@ pub record IsSeatOf (songs : Songs) (seat : Seat) : Type 0 where
   pub head : head_of_owned (owned_by songs (Some seat)) ≡ Some seat.head
   pub root : sample_root_at (place_at songs seat.version) seat.instrument
       (number_at (song_at songs seat.version) seat.instrument seat.note) ≡ Some seat.root
-  pub newest : (word : KeptWord) → seat.words.newest ≡ Some word → IsWordOf songs seat word
-  pub older : (word : KeptWord) → seat.words.older ≡ Some word → IsWordOf songs seat word
+  pub kept : (word : KeptWord) → IsKept seat.words word → IsWordOf songs seat word
+
+abbrev pub IsSeated : Songs → Option Seat → Type 0
+IsSeated songs place = (seat : Seat) → place ≡ Some seat → IsSeatOf songs seat

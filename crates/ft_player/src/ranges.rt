@@ -1,7 +1,7 @@
 //! Answers brought into range.
 //!
-//! Whatever words were read, what each function here answers is in range; and it answers what it was
-//! given where that is in range, as all that is read of a valid song.
+//! Whatever words were read, what each function here answers is in range; and it answers what it
+//! was given where that is in range, as all that is read of a valid song.
 
 ghost use Rattle.std.specs.Prelude.{◌≡◌, ◌≤◌, ◌↔◌, Some, IsTrue, All, IfSome, FitsSigned};
 ghost use Rattle.ft_types.specs.Valid.{width_of, IsValidCell, IsValidEnvelope, IsValidHead, IsValidLoop, IsValidPoint, IsValidShape, IsValidSongHead};

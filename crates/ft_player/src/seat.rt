@@ -1,5 +1,10 @@
 //! What a player keeps for a channel that sounds.
 
+ghost use Rattle.std.specs.Prelude.{◌≡◌, ◌⊎◌, [], true, false, MatchOption};
+ghost use Rattle.ft_types.specs.Work as work_of;
+ghost use Rattle.ft_player.specs.declared.seat.KeptWord.{KeptWord as AWord};
+ghost use Rattle.ft_player.specs.Seats.{numbers_of, IsKept};
+
 use ft_types::SampleHead;
 
 /// A word of frames that was read, and where it stands.
@@ -20,6 +25,76 @@ pub struct KeptWords {
     pub newest: Option<KeptWord>,
     /// The word before it, where there is a last.
     pub older: Option<KeptWord>,
+}
+
+impl KeptWords {
+    /// No word.
+    pub fn none() -> KeptWords
+        ensures numbers { numbers_of result ≡ [] }
+        ensures kept { (word : AWord) → IsKept result word → ⊥ }
+    {
+        KeptWords {
+            newest: None,
+            older: None,
+        }
+    }
+
+    /// The kept word of a number.
+    pub fn find(&self, number: u32) -> Option<KeptWord>
+        ensures { MatchOption result (work_of.is_kept number (numbers_of self.now) ≡ false)
+            (λ word. (work_of.is_kept number (numbers_of self.now) ≡ true)
+            × (word.number ≡ number) × IsKept self.now word) }
+    {
+        let Some(newest) = self.newest else {
+            return None;
+        };
+        if newest.number == number {
+            return Some(newest);
+        }
+        let Some(older) = self.older else {
+            return None;
+        };
+        if older.number == number {
+            return Some(older);
+        }
+        None
+    }
+
+    /// A kept word of the same body as the word of a number.
+    pub fn near(&self, number: u32) -> Option<KeptWord>
+        ensures { MatchOption result (work_of.is_near number (numbers_of self.now) ≡ false)
+            (λ word. (work_of.is_near number (numbers_of self.now) ≡ true)
+            × (work_of.body_of word.number ≡ work_of.body_of number) × IsKept self.now word) }
+    {
+        let Some(newest) = self.newest else {
+            return None;
+        };
+        if newest.number / 256 == number / 256 {
+            return Some(newest);
+        }
+        let Some(older) = self.older else {
+            return None;
+        };
+        if older.number / 256 == number / 256 {
+            return Some(older);
+        }
+        None
+    }
+
+    /// This word was asked for.
+    pub fn keep(&mut self, word: KeptWord)
+        ensures numbers { numbers_of self.new ≡ work_of.asked word.number (numbers_of self.old) }
+        ensures kept { (other : AWord) → IsKept self.new other
+            → (other ≡ word) ⊎ IsKept self.old other }
+    {
+        if let Some(newest) = self.newest
+            && newest.number == word.number
+        {
+            return;
+        }
+        self.older = self.newest;
+        self.newest = Some(word);
+    }
 }
 
 /// The sample of a channel that sounds, as it was in the version in which its voice began.

@@ -1,13 +1,22 @@
 //! The view of a player: one version of a song by the words of a register.
 
-ghost use Rattle.std.specs.Prelude.{◌≡◌, ℕ, Some, None, length, get_or, is_some, map};
+ghost use Rattle.std.specs.Prelude.{◌≡◌, Some, None, length, get_or, is_some, map, refl};
+ghost use Rattle.std.proofs.Common.{◌∙◌};
+ghost use Rattle.ft_image.specs.Passes.{AreCounted};
+ghost use Rattle.ft_image.specs.PassLaws.{counted_through};
 ghost use Rattle.ft_player.specs.Seats.{head_in, pin_in, words_in};
+ghost use Rattle.ft_player.specs.BehindLaws as laws;
 ghost use Rattle.ft_player.specs.Behind.{Holds, Stands, AreSeated, shown_by, HasPlayedOn};
 
+use crate::asking::ask;
+use crate::laws::what_stands_stood_before;
+use crate::reading::{held_cell, held_envelope, held_head, held_order, held_rows, held_shape};
 use crate::seat::Seat;
+use crate::songs::Songs;
+use crate::sounding::{begun_seat, head_of, sit};
 use arrayvec::ArrayVec;
 use ft_shared::{ReaderPass, Shared};
-use ft_types::Steps;
+use ft_types::{Cell, Envelope, SampleHead, Shape, SongHead, SongView, Steps};
 use std::sync::ledger::Ledger;
 
 /// Shows the version that a reader's pass holds, and keeps for each channel the sample that its
@@ -34,4 +43,155 @@ pub struct PlayerView<'a, 'b, 'c, 'd, L: Ledger> {
     ghost many: { length seats.now.items ≡ shared.now.sizes.channels },
     ghost pins: { pass.now.notes.pins ≡ map pin_in seats.now.items },
     ghost seated: { AreSeated pass.now seats.now.items },
+}
+
+impl<'a, 'b, 'c, 'd, L: Ledger> SongView for PlayerView<'a, 'b, 'c, 'd, L> {
+    type World = Songs;
+
+    ghost shows = { λ v w. Stands w v.pass.now };
+
+    ghost shown = { λ v w. shown_by w v.version v.seats.now.items };
+
+    ghost holds = { λ v. map is_some v.seats.now.items };
+
+    ghost keeps = { λ v c h. head_in (get_or v.seats.now.items c None) ≡ Some h };
+
+    ghost words = { λ v. map words_in v.seats.now.items };
+
+    ghost work = { λ v. v.steps.now };
+
+    ghost same = { λ v w. (v.shared.now ≡ w.shared.now)
+        × (v.version ≡ w.version) × (v.root ≡ w.root)
+        × (v.pass.ghost_name ≡ w.pass.ghost_name) × (v.seats.ghost_name ≡ w.seats.ghost_name)
+        × (v.steps.ghost_name ≡ w.steps.ghost_name) × HasPlayedOn v.pass.now w.pass.now
+        × AreCounted v.pass.now w.pass.now v.steps.now w.steps.now };
+
+    ghost same_here = { λ v. (
+      refl,
+      refl,
+      refl,
+      refl,
+      refl,
+      refl,
+      laws.plays_nothing v.pass.now,
+      refl,
+    ) };
+
+    ghost same_through = { λ u v w e f. (
+      e.0 ∙ f.0,
+      e.1 ∙ f.1,
+      e.2 ∙ f.2,
+      e.3 ∙ f.3,
+      e.4 ∙ f.4,
+      e.5 ∙ f.5,
+      laws.plays_through u.pass.now v.pass.now w.pass.now e.6 f.6,
+      counted_through u.pass.now v.pass.now w.pass.now
+          u.steps.now v.steps.now w.steps.now e.7 f.7,
+    ) };
+
+    ghost valid = { λ v w s. laws.valid w v.pass.now
+        (record { version = v.version; root = v.root }) s v.held };
+
+    ghost channels = { λ v w s. laws.channels w v.pass.now v.shared.now
+        (record { version = v.version; root = v.root }) v.seats.now.items s v.here v.held v.many };
+
+    ghost wide = { λ v w s. laws.wide w v.seats.now.items };
+
+    ghost worded = { λ v. laws.worded v.seats.now.items };
+
+    ghost of_head = { λ v w c h s k.
+        laws.of_head w v.pass.now v.seats.now.items c h v.seated s k };
+
+    ghost held = { λ v c h k. laws.held v.seats.now.items c h k };
+
+    fn head(&mut self) -> SongHead {
+        what_stands_stood_before();
+        held_head(self.shared, self.pass, self.root, self.steps)
+    }
+
+    fn order(&mut self, pos: u16) -> u8 {
+        what_stands_stood_before();
+        held_order(self.shared, self.pass, self.root, pos, self.steps)
+    }
+
+    fn rows(&mut self, pattern: u8) -> u16 {
+        what_stands_stood_before();
+        held_rows(self.shared, self.pass, self.root, pattern, self.steps)
+    }
+
+    fn cell(&mut self, pattern: u8, row: u16, channel: u8) -> Cell {
+        what_stands_stood_before();
+        held_cell(
+            self.shared,
+            self.pass,
+            self.root,
+            pattern,
+            row,
+            channel,
+            self.steps,
+        )
+    }
+
+    fn envelope(&mut self, instrument: u8, which: u8) -> Option<Envelope> {
+        what_stands_stood_before();
+        held_envelope(
+            self.shared,
+            self.pass,
+            self.root,
+            instrument,
+            which,
+            self.steps,
+        )
+    }
+
+    fn shape(&mut self, instrument: u8) -> Option<Shape> {
+        what_stands_stood_before();
+        held_shape(self.shared, self.pass, self.root, instrument, self.steps)
+    }
+
+    fn start(&mut self, channel: u8, instrument: u8, note: u8) -> Option<SampleHead> {
+        what_stands_stood_before();
+        let seat = begun_seat(
+            self.shared,
+            self.pass,
+            self.version,
+            self.root,
+            instrument,
+            note,
+            self.steps,
+        );
+        sit(
+            self.shared,
+            self.pass,
+            self.seats,
+            channel,
+            seat,
+            self.steps,
+        );
+        head_of(seat)
+    }
+
+    fn frame(&mut self, channel: u8, place: u32) -> i16 {
+        what_stands_stood_before();
+        ask(
+            self.shared,
+            self.pass,
+            self.seats,
+            channel,
+            place,
+            self.steps,
+        )
+    }
+
+    fn stop(&mut self, channel: u8) {
+        what_stands_stood_before();
+        sit(
+            self.shared,
+            self.pass,
+            self.seats,
+            channel,
+            None,
+            self.steps,
+        );
+    }
 }

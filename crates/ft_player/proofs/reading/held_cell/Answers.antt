@@ -1,4 +1,4 @@
-use Rattle.std.proofs.Common.{rules, ◌≡◌, ◌<◌, ℕ, sym, ap, subst, ◌∙◌}
+use Rattle.std.proofs.Common.{rules, ◌<◌, ℕ, sym, ap, subst, ◌∙◌}
 use Rattle.ft_types.specs.Valid.{IsValidCell}
 use Rattle.ft_shared.specs.Pass.{ReaderState, RegisterId}
 use Rattle.ft_player.specs.Songs.{song_at}
@@ -17,4 +17,6 @@ returns-clause-value g c = λ songs version holds stands.
     ∙ ap (λ (x : RegisterId). x.sizes.channels) c.requires.here in
     let below = subst (λ (n : ℕ). c.args.channel < n) (sym channels) c.requires.channel in
     let value = c.cell.ensures.answer _ song h.may h.shows h.rooted below in
-    c.ranged_cell.ensures.same (subst IsValidCell (sym value) (cell_ranged song c.args.pattern c.args.row c.args.channel h.shows.valid)) ∙ value
+    c.ranged_cell.ensures.same
+    (subst IsValidCell (sym value) (cell_ranged song c.args.pattern c.args.row c.args.channel h.shows.valid))
+    ∙ value
