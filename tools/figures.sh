@@ -69,7 +69,7 @@ echo "reading a song, over a run with a song of 345 bytes:"
 mkdir "$work/large"
 python3 "$here/tools/large_songs.py" "$work/large" >"$work/large/songs"
 second() {
-    "$1" step "$work/large/$2.xm" /dev/null ledger --rate=8000 --seconds=1
+    "$1" step "$work/large/$2.xm" /dev/null ledger --rate=8000 --seconds=1 --segments=65535
 }
 count_nothing=$(second count nothing)
 memory_nothing=$(second memory nothing)

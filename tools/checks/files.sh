@@ -65,6 +65,9 @@ expect 2 - step "$silence" out.wav out.ledger --rate=7999
 absent out.wav
 expect 2 - step $'\xff' out.wav out.ledger
 absent out.wav
+expect 2 - step "$silence" out.wav out.ledger --segments=63
+expect 2 - step "$silence" out.wav out.ledger --segments=65536
+absent out.wav
 
 expect 4 'xmstudio: song could not be read' step missing.xm out.wav out.ledger
 absent out.wav
@@ -99,6 +102,11 @@ expect 5 'xmstudio: output could not be written' copy "$silence" /dev/full
 [ "$("$here/xmstudio" gen 7 seven.xm)" = 'gen 7 bytes 571238 blocks 425 ticks 500 peak 26334' ] || { echo "gen 7 has another line"; failed=1; }
 [ "$(stat -c %s seven.xm)" = 571238 ] || { echo "gen 7 has other bytes"; failed=1; }
 expect 0 '' step seven.xm out.wav out.ledger --rate=8000 --seconds=1
+wav 32044
+expect 7 'xmstudio: pool too small: 425 over 424' step seven.xm out.wav out.ledger --segments=424
+absent out.wav
+absent out.ledger
+expect 0 '' step seven.xm out.wav out.ledger --rate=8000 --seconds=1 --segments=425
 wav 32044
 "$here/xmstudio" gen 7 seven.xm >/dev/full 2>stderr
 [ "$?" = 6 ] || { echo "a line that can't be written isn't told"; failed=1; }

@@ -1,17 +1,19 @@
 //! The desk of a register.
 
-ghost use Rattle.std.specs.Prelude.{◌≡◌, ℕ, ◌≤◌, ◌<◌, None, IfOk, IfErr};
+ghost use Rattle.std.specs.Prelude.{◌≡◌, ℕ, ◌≤◌, ◌<◌, None, IfOk, IfErr, IsSome, IsSomeAnd, All};
 ghost use Rattle.std.specs.Result.{IsErrOf};
 ghost use Rattle.ft_types.specs.Valid.{IsValid};
 ghost use Rattle.ft_types.specs.Blocks.{blocks_of};
-ghost use Rattle.ft_shared.specs.Pass.{fresh_passes};
+ghost use Rattle.ft_shared.specs.Account.{after_note, after_settle, after_resume, last_settled};
+ghost use Rattle.ft_shared.specs.History.{Agrees};
+ghost use Rattle.ft_shared.specs.Pass.{fresh_passes, hold_at, resumed_pass};
 ghost use Rattle.ft_shared.specs.declared.shared.OpenFault.TheVariants.{PoolSmall, NoMemory};
 ghost use Rattle.ft_image.specs.Laid.{song_laid};
 ghost use Rattle.ft_desk.specs.Desk.{IsDesk, IsOpened, desk_of};
 ghost use Rattle.ft_desk.specs.Parts.{parts_of, opening_parts, part_of};
 
 use ft_image::{place, shown_stays};
-use ft_shared::{OpenFault, ReaderPasses, Shared, WriterPass};
+use ft_shared::{Note, OpenFault, ReaderPass, ReaderPasses, Settled, Shared, WriterPass};
 use ft_types::{Journal, Module, blocks};
 use std::alloc::Global;
 use std::marker::Model;
@@ -128,5 +130,56 @@ impl Desk {
         ensures { result.now ≡ self.now.journal }
     {
         &self.journal
+    }
+
+    /// A note of the current version, for one reader to hear. `shared` is what was opened with this
+    /// desk. One load.
+    pub fn note(&mut self, shared: &Shared) -> Note
+        requires { self.old.writer.register ≡ shared.now }
+        ensures noted { self.new ≡ record self.old {
+          writer = record self.old.writer { account = after_note self.old.writer.account };
+        } }
+        ensures note { result ≡ record {
+          register = shared.now;
+          version = self.old.writer.account.version;
+        } }
+    {
+        shared.note(&mut self.pass)
+    }
+
+    /// Gives up a reader's pass. What it held stays held: a version, and its pins. The desk's
+    /// history agrees with all that the pass has noted, and with what each settled pass has.
+    /// `shared` is what was opened with this desk. Two loads.
+    pub fn settle(&mut self, shared: &Shared, pass: ReaderPass) -> Settled
+        requires same { self.old.writer.register ≡ shared.now }
+        requires pass { pass.register ≡ shared.now }
+        ensures settled { self.new ≡ record self.old {
+          writer = record self.old.writer {
+            account = after_settle self.old.writer.account (hold_at pass);
+          };
+        } }
+        ensures version { result.version ≡ self.old.writer.account.version }
+        ensures agrees { Agrees self.new.writer.account.history pass.notes }
+        ensures all { All (λ hold. Agrees self.new.writer.account.history hold.notes)
+            self.new.writer.account.settled }
+    {
+        shared.settle(&mut self.pass, pass)
+    }
+
+    /// Gives back the pass that was settled last and not yet resumed, with all that it held and
+    /// has noted. From now on each look and each take of it gives at least the current version.
+    /// `shared` is what was opened with this desk. One load.
+    pub fn resume(&mut self, shared: &Shared) -> ReaderPass
+        requires same { self.old.writer.register ≡ shared.now }
+        requires some { IsSome (last_settled self.old.writer.account) }
+        ensures resumed { self.new ≡ record self.old {
+          writer = record self.old.writer {
+            account = after_resume self.old.writer.account;
+          };
+        } }
+        ensures pass { IsSomeAnd (last_settled self.old.writer.account)
+            (λ hold. result ≡ resumed_pass shared.now hold self.old.writer.account.version) }
+    {
+        shared.resume(&mut self.pass)
     }
 }

@@ -1,4 +1,5 @@
 pub mod Output
+pub mod Pool
 pub mod Songs
 pub mod Underway
 mod Measuring

@@ -5,7 +5,7 @@ use Rattle.ft_xmread.specs.declared.fault.XmFault.{XmFault}
 use Rattle.ft_xmread.specs.declared.fault.XmFault.TheVariants as faults
 use Rattle.ft_run.specs.declared.status.SongFault.{SongFault}
 use Rattle.ft_run.specs.declared.status.Status.{Status}
-use Rattle.ft_run.specs.declared.status.Status.TheVariants.{Done, Usage, Song, SongRead, WavWrite, LedgerWrite, NoMemory}
+use Rattle.ft_run.specs.declared.status.Status.TheVariants.{Done, Usage, Song, SongRead, WavWrite, LedgerWrite, PoolSmall, NoMemory}
 use Rattle.ft_run.specs.declared.status.SongFault.TheVariants.{Xm, TooBig}
 
 -- ---- what a command can end with
@@ -16,6 +16,7 @@ IsOfStep Done = Unit {0}
 IsOfStep (Song fault) = Unit {0}
 IsOfStep SongRead = Unit {0}
 IsOfStep WavWrite = Unit {0}
+IsOfStep (PoolSmall need had) = Unit {0}
 IsOfStep NoMemory = Unit {0}
 IsOfStep status = ⊥
 
@@ -57,6 +58,7 @@ abbrev pub IsBeforePlay : Status → Type 0
 IsBeforePlay Usage = Unit {0}
 IsBeforePlay (Song fault) = Unit {0}
 IsBeforePlay SongRead = Unit {0}
+IsBeforePlay (PoolSmall need had) = Unit {0}
 IsBeforePlay NoMemory = Unit {0}
 IsBeforePlay status = ⊥
 
@@ -65,7 +67,14 @@ abbrev pub IsAfterReading : Status → Type 0
 IsAfterReading Done = Unit {0}
 IsAfterReading WavWrite = Unit {0}
 IsAfterReading LedgerWrite = Unit {0}
+IsAfterReading (PoolSmall need had) = Unit {0}
 IsAfterReading status = ⊥
+
+-- it wrote all, unless memory was wanting
+abbrev pub IsDone : Status → Type 0
+IsDone Done = Unit {0}
+IsDone NoMemory = Unit {0}
+IsDone status = ⊥
 
 -- ---- what is told of a song
 
@@ -73,6 +82,7 @@ IsAfterReading status = ⊥
 abbrev pub IsAccepted : Status → Type 0
 IsAccepted Done = Unit {0}
 IsAccepted WavWrite = Unit {0}
+IsAccepted (PoolSmall need had) = Unit {0}
 IsAccepted SongRead = Unit {0}
 IsAccepted NoMemory = Unit {0}
 IsAccepted status = ⊥
@@ -83,6 +93,14 @@ RefusesSong (Song found) fault = found ≡ fault
 RefusesSong SongRead fault = Unit {0}
 RefusesSong NoMemory fault = Unit {0}
 RefusesSong status fault = ⊥
+
+-- the pool is too small for a song of so many blocks, unless it could not be read, or memory was
+-- wanting
+abbrev pub RefusesPool : Status → ℕ → ℕ → Type 0
+RefusesPool (PoolSmall need had) blocks segments = (need ≡ blocks) × (had ≡ segments)
+RefusesPool SongRead blocks segments = Unit {0}
+RefusesPool NoMemory blocks segments = Unit {0}
+RefusesPool status blocks segments = ⊥
 
 -- the status of a run whose song has this fault
 abbrev pub refusal_of : XmFault → Status

@@ -3,9 +3,11 @@
 ghost use Rattle.std.specs.Prelude.{◌≡◌, ◌<◌, ◌^◌, ℕ, List};
 ghost use Rattle.std.specs.Io.KnownBytes.{Appends};
 ghost use Rattle.ft_outer.specs.Pieces.{TakesFront};
+ghost use Rattle.ft_words.specs.declared.answer.Asked.TheVariants as ask;
+ghost use Rattle.ft_run.specs.Pool.{CanBeDone, NeverRose};
 ghost use Rattle.ft_run.specs.Run.{IsCopy};
 ghost use Rattle.ft_run.specs.Songs.{ReadsSong};
-ghost use Rattle.ft_run.specs.Statuses.{IsBeforePlay, IsCounted, IsOfCopy};
+ghost use Rattle.ft_run.specs.Statuses.{IsBeforePlay, IsCounted, IsDone, IsOfCopy};
 
 use crate::song::read_song;
 use crate::status::Status;
@@ -24,6 +26,9 @@ pub fn copy_song<S: Source, W: Sink>(alloc: Global, song: &mut S, out: &mut W) -
     ensures wav_front { result ≡ Status.WavWrite → (bytes : List ℕ) × IsCopy (S.left song.old) bytes
         × TakesFront (W.held out.old) (W.held out.new) bytes }
     ensures unwritten { IsBeforePlay result → out.new ≡ out.old }
+    ensures complete { CanBeDone ask.Copy (S.left song.old)
+        → NeverRose (S.faults song.old) (S.faults song.new)
+        → NeverRose (W.faults out.old) (W.faults out.new) → IsDone result }
 {
     let module = match read_song(alloc, song) {
         Ok(module) => module,

@@ -6,8 +6,9 @@ ghost use Rattle.ft_types.specs.Valid.{IsValid};
 ghost use Rattle.ft_format.specs.Canon.{canon};
 ghost use Rattle.ft_outer.specs.Pieces.{TakesFront};
 ghost use Rattle.ft_xmwrite.specs.Generate.{generated};
+ghost use Rattle.ft_run.specs.Pool.{NeverRose};
 ghost use Rattle.ft_run.specs.Run.{line_of, line_of_song, gen_line};
-ghost use Rattle.ft_run.specs.Statuses.{IsCounted, IsOfGen};
+ghost use Rattle.ft_run.specs.Statuses.{IsCounted, IsDone, IsOfGen};
 
 use crate::measure::measured;
 use crate::status::Status;
@@ -114,6 +115,8 @@ pub fn generate_song<W: Sink, L: Sink>(
     ensures wav_count { IsCounted Status.WavWrite result (W.faults out.old) (W.faults out.new) }
     ensures ledger_count { IsCounted Status.LedgerWrite result
         (L.faults ledger.old) (L.faults ledger.new) }
+    ensures complete { NeverRose (W.faults out.old) (W.faults out.new)
+        → NeverRose (L.faults ledger.old) (L.faults ledger.new) → IsDone result }
 {
     let Ok(bytes) = generated_bytes(alloc, number) else {
         return Status::NoMemory;

@@ -6,33 +6,35 @@ ghost use Rattle.ft_format.specs.Canon.{canon};
 ghost use Rattle.ft_outer.specs.Pieces.{TakesFront};
 ghost use Rattle.ft_words.specs.Refused.{IsRefused, IsNoCommand};
 ghost use Rattle.ft_words.specs.declared.answer.Asked.{Asked as What};
+ghost use Rattle.ft_words.specs.declared.answer.Step.{Step};
 ghost use Rattle.ft_words.specs.Answer.{IsAskedBy};
 ghost use Rattle.ft_xmwrite.specs.Generate.{generated};
 ghost use Rattle.ft_run.specs.declared.song.TheConstants.{MOST_BYTES};
 ghost use Rattle.ft_run.specs.Commands.{texts, AskForStep, AskForCopy, AskForGen};
+ghost use Rattle.ft_run.specs.Pool.{CanBeDone, NeverRose, TellsPool};
 ghost use Rattle.ft_run.specs.Run.{IsAskedFor, gen_line};
 ghost use Rattle.ft_run.specs.Songs.{ReadsSong};
-ghost use Rattle.ft_run.specs.Statuses.{IsBeforePlay, IsCounted, IsOfStep, IsOfCopy, IsOfGen, RefusesWords};
+ghost use Rattle.ft_run.specs.Statuses.{IsBeforePlay, IsCounted, IsDone, IsOfStep, IsOfCopy, IsOfGen, RefusesWords};
 
 use crate::copying::copy_song;
 use crate::generating::generate_song;
 use crate::status::{SongFault, Status};
 use crate::stepping::play_song;
 use ft_outer::{Sink, Source};
-use ft_words::{Asked, NamesFault, asked};
+use ft_words::{Asked, NamesFault, asked, one_asked_law};
 use std::alloc::Global;
 
 /// Runs a command that needs no threads:
 ///
-/// - `step SONG WAV LEDGER [--rate=N] [--seconds=N]` reads a song and plays it into `wav`. The
-///   ledger isn't written yet.
+/// - `step SONG WAV LEDGER [--rate=N] [--seconds=N] [--segments=N]` reads a song and plays it into
+///   `wav`, where it wants no more segments than the pool has. The ledger isn't written yet.
 /// - `copy SONG OUT` reads a song and writes its canonical bytes to `wav`.
 /// - `gen NUMBER OUT` writes the canonical bytes of a generated song to `wav`, and a line to
 ///   `ledger`.
 ///
-/// The work goes in this order: the words, the song's bytes, the song, and then what is written;
-/// the first that fails is the answer. So each count of faults but that of the answer stays as it
-/// was.
+/// The work goes in this order: the words, the song's bytes, the song, the pool, and then what is
+/// written; the first that fails is the answer. So each count of faults but that of the answer
+/// stays as it was.
 pub fn run_plain<S: Source, W: Sink, L: Sink>(
     alloc: Global,
     words: &[String],
@@ -66,6 +68,17 @@ pub fn run_plain<S: Source, W: Sink, L: Sink>(
     ensures gen_reads_nothing { AskForGen (texts words.now) → song.new ≡ song.old }
     ensures words_first { IsRefused (texts words.now) → song.new ≡ song.old }
 
+    // The pool of `step` is too small exactly where the song wants more segments than the words
+    // ask for. Where words and song are taken, the pool has room, and nothing outside fails, all
+    // is written, unless memory is wanting.
+    ensures pool { (step : Step) → IsAskedBy (texts words.now) (Asked.Step step)
+        → TellsPool (S.left song.old) step.segments result }
+    ensures complete { (what : What) → IsAskedBy (texts words.now) what
+        → CanBeDone what (S.left song.old)
+        → NeverRose (S.faults song.old) (S.faults song.new)
+        → NeverRose (W.faults wav.old) (W.faults wav.new)
+        → NeverRose (L.faults ledger.old) (L.faults ledger.new) → IsDone result }
+
     // A fault of the outside is told by its status alone, which comes only where it was counted.
     ensures song_count { IsCounted Status.SongRead result (S.faults song.old) (S.faults song.new) }
     ensures wav_count { IsCounted Status.WavWrite result (W.faults wav.old) (W.faults wav.new) }
@@ -98,6 +111,7 @@ pub fn run_plain<S: Source, W: Sink, L: Sink>(
     ensures ledger_last { (result ≢ Status.Done) → (result ≢ Status.LedgerWrite)
         → ledger.new ≡ ledger.old }
 {
+    one_asked_law();
     match asked(alloc, words) {
         Ok(Asked::Step(step)) => play_song(alloc, step, song, wav),
         Ok(Asked::Copy) => copy_song(alloc, song, wav),

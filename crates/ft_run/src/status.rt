@@ -81,8 +81,8 @@ impl fmt::Display for Status {
     }
 }
 
-/// What the whole program takes in the end. So far it knows `step` with the first two options, and
-/// without scripts, `copy` and `gen`.
+/// What the whole program takes in the end. So far it knows `step` without scripts, `copy` and
+/// `gen`.
 const USAGE: &str =
     "usage: live or step SONG WAV LEDGER [SCRIPT]... [--rate=N] [--seconds=N] [--segments=N]; copy SONG OUT; gen NUMBER OUT";
 

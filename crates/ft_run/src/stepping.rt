@@ -3,19 +3,22 @@
 ghost use Rattle.std.specs.Prelude.{◌≡◌, ◌<◌, ◌^◌, ℕ, List};
 ghost use Rattle.std.specs.Io.KnownBytes.{Appends};
 ghost use Rattle.ft_outer.specs.Pieces.{TakesFront};
+ghost use Rattle.ft_words.specs.declared.answer.Asked.TheVariants as ask;
 ghost use Rattle.ft_run.specs.Commands.{IsPlayable};
+ghost use Rattle.ft_run.specs.Pool.{CanBeDone, NeverRose, TellsPool};
 ghost use Rattle.ft_run.specs.Run.{IsOutput};
 ghost use Rattle.ft_run.specs.Songs.{ReadsSong};
-ghost use Rattle.ft_run.specs.Statuses.{IsBeforePlay, IsCounted, IsOfStep};
+ghost use Rattle.ft_run.specs.Statuses.{IsBeforePlay, IsCounted, IsDone, IsOfStep};
 
 use crate::play::play;
 use crate::song::read_song;
 use crate::status::Status;
 use ft_outer::{Sink, Source};
+use ft_types::blocks;
 use ft_words::Step;
 use std::alloc::Global;
 
-/// Reads a song, and plays it.
+/// Reads a song, and plays it where the pool has room for it.
 pub fn play_song<S: Source, W: Sink>(alloc: Global, step: Step, song: &mut S, wav: &mut W) -> Status
     requires counted { S.given song.old < 2 ^ 63 }
     requires asked { IsPlayable step }
@@ -28,11 +31,22 @@ pub fn play_song<S: Source, W: Sink>(alloc: Global, step: Step, song: &mut S, wa
         × IsOutput step (S.left song.old) bytes
         × TakesFront (W.held wav.old) (W.held wav.new) bytes }
     ensures unwritten { IsBeforePlay result → wav.new ≡ wav.old }
+    ensures pool { TellsPool (S.left song.old) step.segments result }
+    ensures complete { CanBeDone (ask.Step step) (S.left song.old)
+        → NeverRose (S.faults song.old) (S.faults song.new)
+        → NeverRose (W.faults wav.old) (W.faults wav.new) → IsDone result }
 {
     let module = match read_song(alloc, song) {
         Ok(module) => module,
         Err(status) => return status,
     };
+    let need = blocks(&module);
+    if need > u32::from(step.segments) {
+        return Status::PoolSmall {
+            need,
+            segments: step.segments,
+        };
+    }
     match play(&module, step, wav) {
         Ok(()) => Status::Done,
         Err(_) => Status::WavWrite,

@@ -16,6 +16,8 @@ mod outside;
 #[cfg(test)]
 mod played;
 #[cfg(test)]
+mod pool;
+#[cfg(test)]
 mod refusals;
 #[cfg(test)]
 mod runs;

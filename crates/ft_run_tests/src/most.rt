@@ -74,10 +74,12 @@ fn is_full_sound(outcome: &Outcome) -> bool {
         })
 }
 
-/// Whether the song is over 16 MB, and played as it is to sound.
+/// Whether the song is over 16 MB, and played as it is to sound. Its patterns take 256 * 33
+/// segments, its longest samples 5 * 3,845, the others 123 * 3, its instruments 128, and the song 1.
 fn is_played(alloc: Global) -> Result<bool, AllocError> {
     let song = full_song(alloc)?;
-    let outcome = outcome_of(alloc, "step s w l --rate=8363 --seconds=1", &song, WIDE)?;
+    let words = "step s w l --rate=8363 --seconds=1 --segments=28171";
+    let outcome = outcome_of(alloc, words, &song, WIDE)?;
     Ok(song.len() > 16_777_216 && outcome.status == Status::Done && is_full_sound(&outcome))
 }
 

@@ -8,7 +8,7 @@ use std::alloc::{AllocError, Global};
 use std::test::Fail;
 
 /// Words that are no command.
-static REFUSED: [&str; 25] = [
+static REFUSED: [&str; 31] = [
     "",
     "step",
     "step a b",
@@ -22,12 +22,18 @@ static REFUSED: [&str; 25] = [
     "step a b c --rate=99999999999999999999",
     "step a b c --seconds=0",
     "step a b c --seconds=1201",
+    "step a b c --segments=63",
+    "step a b c --segments=65536",
+    "step a b c --segments=",
+    "step a b c --segments=-64",
     "step a b c --rate=8000 --rate=8000",
+    "step a b c --segments=64 --segments=64",
     "step a b c --rate=8000 --seconds=1 d",
     "step a b --rate=8000",
     "copy a",
     "copy a b c",
     "copy a b --rate=8000",
+    "gen 7 out --segments=64",
     "gen 7",
     "gen x out",
     "gen -1 out",
@@ -62,15 +68,22 @@ fn words_that_are_no_command_are_refused(rt: HostRuntime) -> Result<(), Fail> {
     Ok(())
 }
 
-/// Words of `step`, with the rate and the seconds that they ask for. The options come in any order,
-/// behind `=` or a blank.
-static STEPS: [(&str, u32, u32); 6] = [
-    ("step a b c", 44_100, 60),
-    ("step a b c --rate=8000 --seconds=1", 8_000, 1),
-    ("step a b c --seconds=1200 --rate=48000", 48_000, 1_200),
-    ("step --rate 8000 a --seconds 1 b c", 8_000, 1),
-    ("step a b c --seconds 2", 44_100, 2),
-    ("step a b c --rate=48000", 48_000, 60),
+/// Words of `step`, with the rate, the seconds and the segments that they ask for. The options come
+/// in any order, behind `=` or a blank.
+static STEPS: [(&str, u32, u32, u16); 8] = [
+    ("step a b c", 44_100, 60, 16_384),
+    ("step a b c --rate=8000 --seconds=1", 8_000, 1, 16_384),
+    (
+        "step a b c --seconds=1200 --rate=48000",
+        48_000,
+        1_200,
+        16_384,
+    ),
+    ("step --rate 8000 a --seconds 1 b c", 8_000, 1, 16_384),
+    ("step a b c --seconds 2", 44_100, 2, 16_384),
+    ("step a b c --rate=48000", 48_000, 60, 16_384),
+    ("step a b c --segments=64", 44_100, 60, 64),
+    ("step --segments 65535 a b c --seconds=1", 44_100, 1, 65_535),
 ];
 
 /// Other words, with what they ask for.
@@ -88,10 +101,11 @@ static OTHERS: [(&str, Asked); 4] = [
 
 #[test]
 fn words_ask_for_one_thing(rt: HostRuntime) {
-    for (text, rate, seconds) in STEPS.iter() {
+    for (text, rate, seconds, segments) in STEPS.iter() {
         let step = Asked::Step(Step {
             rate: *rate,
             seconds: *seconds,
+            segments: *segments,
         });
         assert!(rt; asked_for(rt.alloc(), text) == Ok(step), "{text}");
     }

@@ -44,9 +44,9 @@ pub enum OpenFault {
     /// The words need more segments than there are to be.
     #[error("the words need {need} segments, and there are {segments}")]
     PoolSmall {
-        /// Segments that the words need, 1 to 65,535.
+        /// Segments that are needed: those of the words, 1 to 65,535, or the blocks of a song.
         need: u32,
-        /// Segments that the pool was to have, 0 to 65,534.
+        /// Segments that the pool was to have, 0 to 65,535.
         segments: u16,
     },
     /// Memory was wanting. No clause says when.

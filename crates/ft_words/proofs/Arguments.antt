@@ -48,6 +48,10 @@ pub step_seconds : IsArgument step_app 4 (option_rule (codes "seconds") (codes "
 unfolding step_app
 step_seconds = record { sound = refl; there = refl; alone = refl; set = refl; one = refl; comes = refl; own = refl }
 
+pub step_segments : IsArgument step_app 5 (option_rule (codes "segments") (codes "16384") (numbers_within 64 65535))
+unfolding step_app
+step_segments = record { sound = refl; there = refl; alone = refl; set = refl; one = refl; comes = refl; own = refl }
+
 pub copy_song : IsArgument copy_app 0 (file_rule (codes "song"))
 unfolding copy_app
 copy_song = record { sound = refl; there = refl; alone = refl; set = refl; one = refl; comes = refl; own = refl }
@@ -92,11 +96,12 @@ named_is a ws m id texts s exact read is =
 abbrev pub IsNumberIn : App → List Text → Text → ℕ → ℕ → ℕ → Type 0
 IsNumberIn a ws id low high n = IsNumberOf a ws id n × (low ≤ n) × (n ≤ high)
 
-module _ (E : Type 0) (ReadsNumber : Text → Result ℕ E → Type 0)
-    (only : (u : Text) (x : Result ℕ E) → ReadsNumber u x → ParsesUnsigned 32 10 u x)
+-- where numbers have so many bits
+module _ (E : Type 0) (ReadsNumber : Text → Result ℕ E → Type 0) (bits : ℕ)
+    (only : (u : Text) (x : Result ℕ E) → ReadsNumber u x → ParsesUnsigned bits 10 u x)
     (a : App) (k : ℕ) (r : Rule) (ws : List Text) (m : ArgMatches) (low high : ℕ) (g : IsArgument a k r)
     (h : IsParseOf a m)
-    (parser : r.parser ≡ Some (numbers_within low high)) (fits : high < 2 ^ 32)
+    (parser : r.parser ≡ Some (numbers_within low high)) (fits : high < 2 ^ bits)
     (o : Option ℕ) (reads : (t : Text) → one_text (found_of m) r.id ≡ Some t → ReadsOne ReadsNumber t o) where
   passed :
       (t : Text) × (one_text (found_of m) r.id ≡ Some (without_minus t))
@@ -105,7 +110,7 @@ module _ (E : Type 0) (ReadsNumber : Text → Result ℕ E → Type 0)
       parser
 
   some_number : (n : ℕ) × (o ≡ Some n) × (low ≤ n) × (n ≤ high)
-  some_number = signed_reads E ReadsNumber 32 low high passed.0 o (reads (without_minus passed.0) passed.1) only fits
+  some_number = signed_reads E ReadsNumber bits low high passed.0 o (reads (without_minus passed.0) passed.1) only fits
       passed.2
 
   -- the getter of the number has an answer

@@ -28,10 +28,12 @@ pub gen_built : (p : App)
 unfolding gen_app
 gen_built p e = e
 
-pub step_built : (p : App) → p ≡ with_rule (with_rule (with_rule (with_rule (with_rule (bare_app (codes "step"))
+pub step_built : (p : App)
+    → p ≡ with_rule (with_rule (with_rule (with_rule (with_rule (with_rule (bare_app (codes "step"))
     (file_rule (codes "song"))) (file_rule (codes "wav"))) (file_rule (codes "ledger")))
     (option_rule (codes "rate") (codes "44100") (numbers_within 8000 48000)))
-    (option_rule (codes "seconds") (codes "60") (numbers_within 1 1200)) → p ≡ step_app
+    (option_rule (codes "seconds") (codes "60") (numbers_within 1 1200)))
+    (option_rule (codes "segments") (codes "16384") (numbers_within 64 65535)) → p ≡ step_app
 unfolding step_app
 step_built p e = e
 

@@ -2,3 +2,4 @@ pub mod Chain
 pub mod Given
 pub mod Arguments
 pub mod Split
+pub mod One

@@ -21,7 +21,7 @@ abbrev pub IsNumberOf : App → List Text → Text → ℕ → Type 0
 IsNumberOf app others id n =
     (t : Text) × (one_of id (matches_of app others) ≡ Some t) × IsNumeralOf t n
 
--- `step`, with the rate and the length that the words name
+-- `step`, with the rate, the length and the segments that the words name
 pub record AsksStep (others : List Text) (step : Step) : Type 0 where
   pub taken : fault_of step_app others ≡ []
   pub rate : IsNumberOf step_app others (codes "rate") step.rate
@@ -30,6 +30,9 @@ pub record AsksStep (others : List Text) (step : Step) : Type 0 where
   pub seconds : IsNumberOf step_app others (codes "seconds") step.seconds
   pub some_seconds : 1 ≤ step.seconds
   pub few_seconds : step.seconds ≤ 1200
+  pub segments : IsNumberOf step_app others (codes "segments") step.segments
+  pub some_segments : 64 ≤ step.segments
+  pub few_segments : step.segments ≤ 65535
 
 -- `gen`, with the number that the words name
 pub record AsksGen (others : List Text) (n : ℕ) : Type 0 where

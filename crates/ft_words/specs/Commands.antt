@@ -34,13 +34,14 @@ numbers_within low high = vp.Signed (pos low) (pos high)
 abbrev pub bare_app : Text → App
 bare_app name = on_top (λ s. record s { no_binary_name = true }) (new_app name)
 
--- `step SONG WAV LEDGER`, with a rate and a length in seconds
+-- `step SONG WAV LEDGER`, with a rate, a length in seconds, and the segments of the pool
 unfoldable pub step_app : App
 step_app =
-    with_rule (with_rule (with_rule (with_rule (with_rule (bare_app (codes "step"))
+    with_rule (with_rule (with_rule (with_rule (with_rule (with_rule (bare_app (codes "step"))
     (file_rule (codes "song"))) (file_rule (codes "wav"))) (file_rule (codes "ledger")))
     (option_rule (codes "rate") (codes "44100") (numbers_within 8000 48000)))
-    (option_rule (codes "seconds") (codes "60") (numbers_within 1 1200))
+    (option_rule (codes "seconds") (codes "60") (numbers_within 1 1200)))
+    (option_rule (codes "segments") (codes "16384") (numbers_within 64 65535))
 
 -- `copy SONG OUT`
 unfoldable pub copy_app : App

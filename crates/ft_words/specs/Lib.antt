@@ -2,3 +2,4 @@ pub mod Commands
 pub mod Refused
 pub mod Files
 pub mod Answer
+pub mod Laws

@@ -7,6 +7,8 @@ pub struct Step {
     pub rate: u32,
     /// Length of the sound, 1 to 1,200 seconds.
     pub seconds: u32,
+    /// Segments of the pool, 64 to 65,535.
+    pub segments: u16,
 }
 
 /// What a command line asks for, beside its files.

@@ -12,7 +12,7 @@ use crate::parsing::parsed;
 use crate::verb::{Verb, verb_of};
 use std::alloc::Global;
 
-/// The rate and the seconds of `step`.
+/// The rate, the seconds and the segments of `step`.
 fn step_asked(alloc: Global, words: &[String]) -> Result<Step, NamesFault>
     ensures asked { IfOk result (AsksStep (map string_bytes words.now)) }
     ensures usage { result ≡ Err NamesFault.Usage
@@ -25,7 +25,14 @@ fn step_asked(alloc: Global, words: &[String]) -> Result<Step, NamesFault>
     let Some(seconds) = matches.get_one::<u32>("seconds") else {
         unreachable!();
     };
-    Ok(Step { rate, seconds })
+    let Some(segments) = matches.get_one::<u16>("segments") else {
+        unreachable!();
+    };
+    Ok(Step {
+        rate,
+        seconds,
+        segments,
+    })
 }
 
 /// The number of `gen`.

@@ -47,18 +47,20 @@ fn bare_command<'a>(alloc: Global, name: &'a str) -> Command<'a>
     Command::new(alloc, name).no_binary_name(true)
 }
 
-/// `step SONG WAV LEDGER [--rate=N] [--seconds=N]`.
+/// `step SONG WAV LEDGER [--rate=N] [--seconds=N] [--segments=N]`.
 fn step_command<'a>(alloc: Global) -> Result<Command<'a>, AllocError>
     ensures { IfOk result (λ c. app_of c ≡ step_app) }
 {
     let rates = value_parser!(u32).range(8_000..=48_000);
     let lengths = value_parser!(u32).range(1..=1_200);
+    let pools = value_parser!(u16).range(64..);
     bare_command(alloc, "step")
         .arg(file_arg(alloc, "song"))?
         .arg(file_arg(alloc, "wav"))?
         .arg(file_arg(alloc, "ledger"))?
         .arg(option_arg(alloc, "rate", "44100", rates))?
-        .arg(option_arg(alloc, "seconds", "60", lengths))
+        .arg(option_arg(alloc, "seconds", "60", lengths))?
+        .arg(option_arg(alloc, "segments", "16384", pools))
 }
 
 /// `copy SONG OUT`.

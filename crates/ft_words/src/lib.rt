@@ -10,6 +10,7 @@ mod asking;
 mod commands;
 mod fault;
 mod files;
+mod laws;
 mod parsing;
 mod verb;
 
@@ -17,4 +18,5 @@ pub use answer::{Asked, Step};
 pub use asking::asked;
 pub use fault::NamesFault;
 pub use files::{FileNames, Texts, names};
+pub use laws::one_asked_law;
 pub use verb::Verb;

@@ -3,3 +3,4 @@ pub mod Generated
 pub mod Pieces
 mod WorkedDraws
 pub mod Steps
+mod Counted

@@ -10,9 +10,11 @@ mod deltas;
 mod generator;
 mod header;
 mod instrument;
+mod laws;
 mod pattern;
 mod sample;
 mod writing;
 
 pub use generator::generate;
+pub use laws::generated_blocks_law;
 pub use writing::write_xm;

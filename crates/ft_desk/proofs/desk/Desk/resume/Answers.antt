@@ -1,0 +1,14 @@
+use Rattle.std.proofs.Common.{refl, sym, ap, subst, ◌∙◌}
+use Rattle.ft_shared.specs.Account.{after_resume}
+use Rattle.ft_shared.specs.Pass.{WriterState}
+use Rattle.ft_desk.specs.Desk.{IsDesk, desk_of}
+use Rattle.ft_desk.proofs.Kept.{with_account}
+use Rattle.ft_desk.proofs.desk.Desk.resume.Goals as goal
+
+pub invariant_of-self : goal.invariant_of-self
+invariant_of-self c =
+    let desk = c.self.inside in (
+      ap (λ (w : WriterState). w.account.version) c.resume.ensures.resumed ∙ c.self.invariant.0,
+      subst (λ (w : WriterState). IsDesk (desk_of w desk.journal desk.opening.value desk.first.value)) (sym c.resume.ensures.resumed)
+          (with_account desk.pass (after_resume desk.pass.account) desk.journal desk.opening.value desk.first.value refl refl c.self.invariant.1),
+    )
