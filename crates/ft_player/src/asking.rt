@@ -28,6 +28,7 @@ use std::sync::ledger::Ledger;
 
 /// The segment of the body of a frame of a seat's sample: that of a kept word, or what the sample's
 /// words say.
+#[inline(never)]
 fn body_for<L: Ledger>(
     shared: &Shared,
     pass: &mut ReaderPass,
@@ -62,6 +63,7 @@ fn body_for<L: Ledger>(
 }
 
 /// A word of frames of a seat's sample, from the segment of its body.
+#[inline(never)]
 fn read_word<L: Ledger>(
     shared: &Shared,
     pass: &mut ReaderPass,
@@ -100,6 +102,7 @@ fn read_word<L: Ledger>(
 }
 
 /// The word of a frame of a seat's sample: a kept one, or one that is read.
+#[inline]
 fn word_for<L: Ledger>(
     shared: &Shared,
     pass: &mut ReaderPass,
@@ -129,6 +132,7 @@ fn word_for<L: Ledger>(
 }
 
 /// The frame at a place of a seat's sample, whose word is asked for.
+#[inline]
 fn ask_seat<L: Ledger>(
     shared: &Shared,
     pass: &mut ReaderPass,
@@ -161,6 +165,7 @@ fn ask_seat<L: Ledger>(
 }
 
 /// The frame at a place of the sample of a channel's seat, whose word is asked for.
+#[inline]
 fn ask_one<L: Ledger>(
     shared: &Shared,
     pass: &mut ReaderPass,
@@ -193,6 +198,7 @@ fn ask_one<L: Ledger>(
 }
 
 /// The frame at a place of the sample that a channel keeps, whose word is asked for.
+#[inline]
 pub fn ask<L: Ledger>(
     shared: &Shared,
     pass: &mut ReaderPass,

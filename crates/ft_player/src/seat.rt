@@ -40,6 +40,7 @@ impl KeptWords {
     }
 
     /// The kept word of a number.
+    #[inline]
     pub fn find(&self, number: u32) -> Option<KeptWord>
         ensures { MatchOption result (work_of.is_kept number (numbers_of self.now) ≡ false)
             (λ word. (work_of.is_kept number (numbers_of self.now) ≡ true)
@@ -61,6 +62,7 @@ impl KeptWords {
     }
 
     /// A kept word of the same body as the word of a number.
+    #[inline]
     pub fn near(&self, number: u32) -> Option<KeptWord>
         ensures { MatchOption result (work_of.is_near number (numbers_of self.now) ≡ false)
             (λ word. (work_of.is_near number (numbers_of self.now) ≡ true)
@@ -82,6 +84,7 @@ impl KeptWords {
     }
 
     /// This word was asked for.
+    #[inline]
     pub fn keep(&mut self, word: KeptWord)
         ensures numbers { numbers_of self.new ≡ work_of.asked word.number (numbers_of self.old) }
         ensures kept { (other : AWord) → IsKept self.new other
