@@ -1,0 +1,4 @@
+use Rattle.ft_player_tests.proofs.playing.song_plays.Given as goal
+
+abbrev pub ghosts-plays : goal.ghosts-plays
+ghosts-plays a = record { name = a.blank.name; parts = a.blank.parts }
