@@ -2,4 +2,6 @@ pub mod Output
 pub mod Pool
 pub mod Songs
 pub mod Underway
+pub mod Only
+pub mod Settled
 mod Measuring

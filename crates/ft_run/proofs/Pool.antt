@@ -1,10 +1,14 @@
 -- What `step` tells of its pool, wherever it ends.
-use Rattle.std.proofs.Common.{◌≡◌, ◌≢◌, ◌<◌, ◌≤◌, ℕ, List, Option, sym, ap, ◌∙◌, refl, arith}
+use Rattle.std.proofs.Common.{◌≡◌, ◌≢◌, ◌<◌, ◌≤◌, ℕ, List, Option, sym, ap, ◌∙◌, refl, subst, arith, inl, inr, Ok, Err}
 use Rattle.std.specs.Prelude.{IfSome}
+use Rattle.std.specs.Result.{IsErrOf}
+use Rattle.std.proofs.lemmas.Bool.{cases_lt}
 use Rattle.ft_types.specs.declared.module.Module.{Module}
 use Rattle.ft_types.specs.Blocks.{blocks_of}
 use Rattle.ft_types.specs.Valid.{IsValid}
 use Rattle.ft_format.specs.Spelling.{Spells}
+use Rattle.ft_shared.specs.declared.shared.OpenFault.{OpenFault}
+use Rattle.ft_shared.specs.declared.shared.OpenFault.TheVariants as faults
 use Rattle.ft_run.specs.Pool.{HoldsSong, TellsPool}
 use Rattle.ft_run.specs.Songs.{IsSongFile}
 use Rattle.ft_run.specs.Statuses.{IsAccepted, IsDone, IsUnread, RefusesPool}
@@ -27,6 +31,23 @@ unread_done status unread accepted sure = absurd unread
 unread_kept : (status : Status) (need had : ℕ) → IsUnread status → status ≢ statuses.PoolSmall need had
 unread_kept (statuses.PoolSmall a b) need had unread e = unread
 unread_kept status need had unread e = cc
+
+-- a stage was set only where the pool has room
+pub fits : {T : Type 0} → (segments blocks : ℕ) (stage : T) (fault : OpenFault)
+    → (segments < blocks → IsErrOf {T = T} (Ok stage) fault) → blocks ≤ segments
+fits segments blocks stage fault small = elim (cases_lt segments blocks) [
+  | inl lt ↦ let bad : ⊥ = let e = small lt in cc in absurd bad
+  | inr le ↦ le
+]
+
+-- and is refused for its pool only where that has no room, with both numbers
+pub is_small : {T : Type 0} → (segments blocks need had : ℕ) (fault : OpenFault) → fault ≡ faults.PoolSmall need had
+    → (segments < blocks → IsErrOf {T = T} (Err fault) (faults.PoolSmall blocks segments))
+    → (blocks ≤ segments → fault ≡ faults.NoMemory) → (segments < blocks) × (need ≡ blocks) × (had ≡ segments)
+is_small segments blocks need had fault is small memory = elim (cases_lt segments blocks) [
+  | inl lt ↦ let e = small lt in (lt, cc, cc)
+  | inr le ↦ let bad : ⊥ = let e = memory le in cc in absurd bad
+]
 
 module _ (held : Option (List ℕ)) (segments : ℕ) where
   -- the song isn't read
@@ -58,6 +79,14 @@ module _ (held : Option (List ℕ)) (segments : ℕ) where
       over = λ song holds wide. (is ∙ same_blocks song holds, refl);
       fits = λ song holds few need had e. let same = same_blocks song holds in omega (arith, is, more, same, few);
     }
+
+    -- and both numbers are told
+    pub small_told : (need had a b : ℕ) → IsValid read → IfSome held (λ file. Spells file read) → segments < blocks_of read
+        → need ≡ blocks_of read → had ≡ segments → a ≡ need → b ≡ had → TellsPool held segments (statuses.PoolSmall a b)
+    small_told need had a b valid told more is same x y =
+        let tells = small_tells need valid told is (omega (arith, more, is)) in
+        subst (λ (n : ℕ). TellsPool held segments (statuses.PoolSmall n b)) (sym x)
+        (subst (λ (n : ℕ). TellsPool held segments (statuses.PoolSmall need n)) (sym (y ∙ same)) tells)
 
     -- the pool has room for it
     pub wide_tells : (status : Status) → blocks_of read ≤ segments → ((need had : ℕ) → status ≢ statuses.PoolSmall need had)

@@ -4,4 +4,5 @@ pub mod Measure
 pub mod Pool
 pub mod Run
 pub mod Songs
+pub mod Stage
 pub mod Statuses

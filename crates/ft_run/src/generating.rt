@@ -1,7 +1,8 @@
 //! `gen`: a generated song, and a line that says how large and how loud it is.
 
-ghost use Rattle.std.specs.Prelude.{◌≡◌, ◌≢◌, ◌⊎◌, IfOk, string_bytes, length};
+ghost use Rattle.std.specs.Prelude.{◌≡◌, ◌≢◌, ◌⊎◌, ◌≤◌, IfOk, string_bytes, length};
 ghost use Rattle.std.specs.Io.KnownBytes.{Appends};
+ghost use Rattle.ft_types.specs.Blocks.{blocks_of};
 ghost use Rattle.ft_types.specs.Valid.{IsValid};
 ghost use Rattle.ft_format.specs.Canon.{canon};
 ghost use Rattle.ft_outer.specs.Pieces.{TakesFront};
@@ -15,7 +16,7 @@ use crate::status::Status;
 use ft_outer::{Sink, put_all};
 use ft_types::{Module, NoMemory, blocks};
 use ft_xmread::read_xm;
-use ft_xmwrite::{generate, write_xm};
+use ft_xmwrite::{generate, generated_blocks_law, write_xm};
 use std::alloc::Global;
 
 /// The rate at which a generated song is played, in frames a second.
@@ -60,10 +61,11 @@ fn line_of(alloc: Global, number: u32, told: Numbers) -> Result<String, NoMemory
 #[tactic(auto, unfolding(crate::specs::Run::line_of_song))]
 fn line_of_song(alloc: Global, number: u32, song: &Module, bytes: usize) -> Result<String, NoMemory>
     requires valid { IsValid song.now }
+    requires few { blocks_of song.now ≤ 16384 }
     requires bytes { bytes ≡ length (canon song.now) }
     ensures { IfOk result (λ line. string_bytes line ≡ line_of_song number song.now) }
 {
-    let played = measured(song, MEASURED_RATE, MEASURED_RATE * MEASURED_SECONDS);
+    let played = measured(alloc, song, MEASURED_RATE, MEASURED_RATE * MEASURED_SECONDS)?;
     line_of(
         alloc,
         number,
@@ -82,6 +84,7 @@ fn line_of_bytes(alloc: Global, number: u32, bytes: &[u8]) -> Result<String, NoM
     requires valid { IsValid (generated number) }
     ensures { IfOk result (λ line. string_bytes line ≡ gen_line number) }
 {
+    generated_blocks_law();
     let Ok(song) = read_xm(alloc, bytes) else {
         return Err(NoMemory);
     };

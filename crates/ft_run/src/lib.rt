@@ -10,6 +10,7 @@ mod measure;
 mod play;
 mod run;
 mod song;
+mod stage;
 mod status;
 mod stepping;
 

@@ -1,4 +1,4 @@
-//! Playing a song into a WAV file.
+//! Playing a song from the pool of a register into a WAV file.
 
 ghost use Rattle.std.specs.Prelude.{◌≡◌, ◌≤◌, ◌^◌, ◌*◌, ◌<◌, ℤ, ℕ, List, OnOk, OnErr, length};
 ghost use Rattle.std.specs.Io.KnownBytes.{Appends};
@@ -6,45 +6,48 @@ ghost use Rattle.ft_types.specs.Valid.{IsValid};
 ghost use Rattle.ft_outer.specs.Counts.{HasCause};
 ghost use Rattle.ft_outer.specs.Pieces.{TakesFront};
 ghost use Rattle.ft_out.specs.Wav.{sound_bytes};
-ghost use Rattle.ft_replay.specs.Calls as calls;
-ghost use Rattle.ft_replay.specs.Range.{IsSongInRange};
 ghost use Rattle.ft_replay.specs.Replay.{sound_from, sound_of_song};
-ghost use Rattle.ft_replay.specs.Standing.{sequential_of};
+ghost use Rattle.ft_player.specs.Player.{ForAllBehind, stood_by};
+ghost use Rattle.ft_player.specs.Songs.{song_at};
 ghost use Rattle.ft_run.specs.Commands.{IsPlayable};
 ghost use Rattle.ft_run.specs.Run.{wav_of};
+ghost use Rattle.ft_run.specs.Stage.{IsSet, IsOnly};
 
+use crate::stage::Stage;
 use ft_out::{TICK_BYTES, put_frames_through, wav_head};
 use ft_outer::{Sink, WriteFault, put_all, taking_law};
-use ft_play::play_tick;
-use ft_replay::{SongState, replay_law};
-use ft_types::{Module, ModuleView, SongView};
+use ft_player::Player;
+use ft_replay::replay_law;
+use ft_shared::Shared;
+use ft_types::{Module, Steps};
 use ft_words::Step;
+use std::marker::Brand;
+use std::sync::ledger::{Blank, Ledger};
 
 /// Room for the numbers of the longest tick: 3,750 frames, left and right, and a frame more.
 pub const TICK_NUMBERS: usize = 7_502;
 
-/// Writes so many frames of a song from its state on, tick by tick; the last tick is cut. Whatever
-/// stands behind the view, it is the replay of the version that is shown.
-fn put_ticks<V: SongView, W: Sink>(
-    view: &mut V,
-    song: &mut SongState,
-    rate: u32,
+/// Writes so many frames of what a player plays, tick by tick; the last tick is cut. Whatever
+/// stands behind the player, where that is one version alone, it is the replay of this version.
+fn put_ticks<W: Sink, L: Ledger>(
+    player: &mut Player,
+    shared: &Shared,
     frames: u32,
     wav: &mut W,
+    steps: &mut Steps<L>,
 ) -> Result<(), WriteFault>
-    requires wide { song.old.used ≡ length (V.holds view.old) }
-    requires low { 8000 ≤ rate }
-    requires high { rate ≤ 48000 }
-    requires range { IsSongInRange song.old }
-    requires kept { calls.AreVoicesKept (V.keeps view.old) song.old.voices.items }
-    ensures whole { OnOk result ((w : V.World) → V.shows view.new w → V.shows view.old w
-        × Appends (W.held wav.old) (W.held wav.new) (sound_bytes
-        (sound_from (V.shown view.old w).version (V.shown view.old w).song frames rate
-        (sequential_of song.old (V.shown view.old w))))) }
-    ensures front { OnErr result ((w : V.World) → V.shows view.new w → V.shows view.old w
-        × TakesFront (W.held wav.old) (W.held wav.new) (sound_bytes
-        (sound_from (V.shown view.old w).version (V.shown view.old w).song frames rate
-        (sequential_of song.old (V.shown view.old w))))) }
+    requires same { player.old.pass.register ≡ shared.now }
+    ensures register { player.new.pass.register ≡ player.old.pass.register }
+    ensures whole { OnOk result (ForAllBehind player.old player.new (λ songs.
+        (version : ℕ) → IsOnly songs version
+        → Appends (W.held wav.old) (W.held wav.new) (sound_bytes
+        (sound_from version (song_at songs version) frames player.old.rate
+        (stood_by songs player.old))))) }
+    ensures front { OnErr result (ForAllBehind player.old player.new (λ songs.
+        (version : ℕ) → IsOnly songs version
+        → TakesFront (W.held wav.old) (W.held wav.new) (sound_bytes
+        (sound_from version (song_at songs version) frames player.old.rate
+        (stood_by songs player.old))))) }
     ensures cause { HasCause (W.faults wav.old) (W.faults wav.new) result }
 {
     taking_law();
@@ -53,7 +56,7 @@ fn put_ticks<V: SongView, W: Sink>(
     let mut bytes = [0; TICK_BYTES];
     let mut left = frames;
     while left > 0 {
-        let tick = play_tick(view, song, rate, &mut numbers);
+        let tick = player.tick(shared, &mut numbers, steps);
         let count = tick.frames.min(left);
         put_frames_through(wav, &mut bytes, &numbers[..2 * count as usize])?;
         left -= count;
@@ -61,8 +64,18 @@ fn put_ticks<V: SongView, W: Sink>(
     Ok(())
 }
 
-/// Writes so many frames of a song, from its beginning.
-fn put_song<W: Sink>(song: &Module, rate: u32, frames: u32, wav: &mut W) -> Result<(), WriteFault>
+/// Writes so many frames of the song of a stage, from its beginning. Afterwards the pass is given
+/// up: so what was played is known to be what stands in the register's history.
+fn put_song<W: Sink, L: Ledger>(
+    blank: Blank,
+    stage: Stage,
+    song: &Module,
+    rate: u32,
+    frames: u32,
+    wav: &mut W,
+) -> Result<(), WriteFault>
+    requires blank { (blank.name ≡ L.name) × (blank.parts ≡ L.parts) × (0 < L.parts) }
+    requires set { IsSet song.now stage }
     requires valid { IsValid song.now }
     requires low { 8000 ≤ rate }
     requires high { rate ≤ 48000 }
@@ -72,14 +85,24 @@ fn put_song<W: Sink>(song: &Module, rate: u32, frames: u32, wav: &mut W) -> Resu
         (sound_bytes (sound_of_song song.now frames rate))) }
     ensures cause { HasCause (W.faults wav.old) (W.faults wav.new) result }
 {
-    let mut view = ModuleView::new(song);
-    let mut state = SongState::first(song.channels);
-    put_ticks(&mut view, &mut state, rate, frames, wav)
+    let Stage {
+        shared,
+        mut desk,
+        pass,
+    } = stage;
+    desk.history_law();
+    let mut steps = Steps::<L>::open(blank);
+    let mut player = Player::open(pass, song.channels, rate);
+    let done = put_ticks(&mut player, &shared, frames, wav, &mut steps);
+    let pass = player.close(&shared, &mut steps);
+    desk.settle(&shared, pass);
+    done
 }
 
-/// Writes the WAV file of a song: its head, and then its replay. After a fault the sink took a
-/// front of it.
-pub fn play<W: Sink>(song: &Module, step: Step, wav: &mut W) -> Result<(), WriteFault>
+/// Writes the WAV file of the song of a stage: its head, and then its replay. After a fault the
+/// sink took a front of it.
+pub fn play<W: Sink>(stage: Stage, song: &Module, step: Step, wav: &mut W) -> Result<(), WriteFault>
+    requires set { IsSet song.now stage }
     requires valid { IsValid song.now }
     requires asked { IsPlayable step }
     ensures whole { OnOk result (Appends (W.held wav.old) (W.held wav.new) (wav_of song.now step)) }
@@ -90,5 +113,5 @@ pub fn play<W: Sink>(song: &Module, step: Step, wav: &mut W) -> Result<(), Write
     taking_law();
     let frames = step.rate * step.seconds;
     put_all(wav, &wav_head(step.rate, frames))?;
-    put_song(song, step.rate, frames, wav)
+    put_song::<W, Brand>(Blank::new(1), stage, song, step.rate, frames, wav)
 }

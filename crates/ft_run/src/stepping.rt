@@ -12,9 +12,10 @@ ghost use Rattle.ft_run.specs.Statuses.{IsBeforePlay, IsCounted, IsDone, IsOfSte
 
 use crate::play::play;
 use crate::song::read_song;
+use crate::stage::Stage;
 use crate::status::Status;
 use ft_outer::{Sink, Source};
-use ft_types::blocks;
+use ft_shared::OpenFault;
 use ft_words::Step;
 use std::alloc::Global;
 
@@ -40,14 +41,14 @@ pub fn play_song<S: Source, W: Sink>(alloc: Global, step: Step, song: &mut S, wa
         Ok(module) => module,
         Err(status) => return status,
     };
-    let need = blocks(&module);
-    if need > u32::from(step.segments) {
-        return Status::PoolSmall {
-            need,
-            segments: step.segments,
-        };
-    }
-    match play(&module, step, wav) {
+    let stage = match Stage::open(alloc, &module, step.segments) {
+        Ok(stage) => stage,
+        Err(OpenFault::PoolSmall { need, segments }) => {
+            return Status::PoolSmall { need, segments };
+        }
+        Err(OpenFault::NoMemory) => return Status::NoMemory,
+    };
+    match play(stage, &module, step, wav) {
         Ok(()) => Status::Done,
         Err(_) => Status::WavWrite,
     }

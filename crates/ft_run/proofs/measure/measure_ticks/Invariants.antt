@@ -1,23 +1,23 @@
-use Rattle.std.proofs.Common.{◌≡◌, ◌≤◌, ◌+◌, length}
-use Rattle.ft_replay.specs.Calls.{AreVoicesKept}
-use Rattle.ft_replay.specs.Range.{IsSongInRange}
-use Rattle.ft_replay.specs.Standing.{sequential_of}
+use Rattle.std.proofs.Common.{◌≡◌, ◌≤◌, ◌+◌, ℕ}
+use Rattle.ft_player.specs.declared.songs.Songs.{Songs}
+use Rattle.ft_player.specs.Songs.{song_at}
+use Rattle.ft_player.specs.Behind.{Stands}
+use Rattle.ft_player.specs.Player.{stood_by}
+use Rattle.ft_run.specs.Stage.{IsOnly}
 use Rattle.ft_run.proofs.Measuring.{Measured}
 use Rattle.ft_run.proofs.measure.measure_ticks.Given as goal
 
--- for whatever may stand behind the view, the replay so far is measured
+-- for whatever may stand behind the player, where that is one version, its replay so far is measured
 abbrev pub invariant-loop-left : goal.invariant-loop-left
 invariant-loop-left g l = record {
-  wide : l.song.used ≡ length (g.V.SongView.holds l.view);
-  range : IsSongInRange l.song;
-  kept : AreVoicesKept (g.V.SongView.keeps l.view) l.song.voices.items;
+  same : l.player.pass.register ≡ l.shared;
+  register : l.player.pass.register ≡ l.fn.player.pass.register;
+  rate : l.player.rate ≡ l.fn.player.rate;
   few : l.measure.ticks + l.left ≤ l.frames;
-  so_far : (w : g.row.V-World.Denot) → g.V.SongView.shows l.view w → g.V.SongView.shows l.fn.view w
-      × ((g.V.SongView.shown l.view w).version ≡ (g.V.SongView.shown l.fn.view w).version)
-      × ((g.V.SongView.shown l.view w).song ≡ (g.V.SongView.shown l.fn.view w).song)
-      × Measured (g.V.SongView.shown l.fn.view w).version (g.V.SongView.shown l.fn.view w).song l.rate l.frames
-      (sequential_of l.fn.song (g.V.SongView.shown l.fn.view w)) l.measure.ticks l.measure.peak
-      (sequential_of l.song (g.V.SongView.shown l.view w)) l.left;
+  so_far : (songs : Songs) → Stands songs l.player.pass → Stands songs l.fn.player.pass
+      × ((version : ℕ) → IsOnly songs version
+      → Measured version (song_at songs version) l.fn.player.rate l.frames (stood_by songs l.fn.player)
+      l.measure.ticks l.measure.peak (stood_by songs l.player) l.left);
 }
 
 abbrev pub decreases-loop-left : goal.decreases-loop-left

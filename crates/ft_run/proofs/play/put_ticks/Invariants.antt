@@ -1,22 +1,23 @@
-use Rattle.std.proofs.Common.{◌≡◌, length}
-use Rattle.ft_replay.specs.Calls.{AreVoicesKept}
-use Rattle.ft_replay.specs.Range.{IsSongInRange}
-use Rattle.ft_replay.specs.Standing.{sequential_of}
+use Rattle.std.proofs.Common.{◌≡◌, ℕ}
+use Rattle.ft_player.specs.declared.songs.Songs.{Songs}
+use Rattle.ft_player.specs.Songs.{song_at}
+use Rattle.ft_player.specs.Behind.{Stands}
+use Rattle.ft_player.specs.Player.{stood_by}
+use Rattle.ft_run.specs.Stage.{IsOnly}
 use Rattle.ft_run.proofs.Underway.{Underway}
 use Rattle.ft_run.proofs.play.put_ticks.Given as goal
 
--- for whatever may stand behind the view, the sink took the replay so far
+-- for whatever may stand behind the player, where that is one version, the sink took its replay so
+-- far
 abbrev pub invariant-loop-left : goal.invariant-loop-left
 invariant-loop-left g l = record {
-  wide : l.song.used ≡ length (g.V.SongView.holds l.view);
-  range : IsSongInRange l.song;
-  kept : AreVoicesKept (g.V.SongView.keeps l.view) l.song.voices.items;
-  under : (w : g.row.V-World.Denot) → g.V.SongView.shows l.view w → g.V.SongView.shows l.fn.view w
-      × ((g.V.SongView.shown l.view w).version ≡ (g.V.SongView.shown l.fn.view w).version)
-      × ((g.V.SongView.shown l.view w).song ≡ (g.V.SongView.shown l.fn.view w).song)
-      × Underway (g.V.SongView.shown l.fn.view w).version (g.V.SongView.shown l.fn.view w).song l.rate l.frames
-      (sequential_of l.fn.song (g.V.SongView.shown l.fn.view w))
-      (g.W.Sink.held l.fn.wav) (g.W.Sink.held l.wav) (sequential_of l.song (g.V.SongView.shown l.view w)) l.left;
+  same : l.player.pass.register ≡ l.shared;
+  register : l.player.pass.register ≡ l.fn.player.pass.register;
+  rate : l.player.rate ≡ l.fn.player.rate;
+  under : (songs : Songs) → Stands songs l.player.pass → Stands songs l.fn.player.pass
+      × ((version : ℕ) → IsOnly songs version
+      → Underway version (song_at songs version) l.fn.player.rate l.frames (stood_by songs l.fn.player)
+      (g.W.Sink.held l.fn.wav) (g.W.Sink.held l.wav) (stood_by songs l.player) l.left);
   faults : g.W.Sink.faults l.wav ≡ g.W.Sink.faults l.fn.wav;
 }
 
