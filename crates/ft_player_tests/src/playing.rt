@@ -111,15 +111,55 @@ fn song_plays(alloc: Global, song: &Module, rate: u32, rows: &[Wanted]) -> bool
 #[test]
 fn one_note_sounds_in_the_first_tick(rt: HostRuntime) -> Result<(), Fail> {
     let song = one_note_module(rt.alloc())?;
-    let right = song_plays(rt.alloc(), &song, 8_363, &[
-        Wanted { row: 0, tick: 0, frames: 167, sound: &[2048; 8] },
-        Wanted { row: 0, tick: 1, frames: 167, sound: &[] },
-        Wanted { row: 0, tick: 2, frames: 167, sound: &[] },
-        Wanted { row: 0, tick: 3, frames: 168, sound: &[] },
-        Wanted { row: 0, tick: 4, frames: 167, sound: &[] },
-        Wanted { row: 0, tick: 5, frames: 167, sound: &[] },
-        Wanted { row: 1, tick: 0, frames: 167, sound: &[] },
-    ]);
+    let right = song_plays(
+        rt.alloc(),
+        &song,
+        8_363,
+        &[
+            Wanted {
+                row: 0,
+                tick: 0,
+                frames: 167,
+                sound: &[2048; 8],
+            },
+            Wanted {
+                row: 0,
+                tick: 1,
+                frames: 167,
+                sound: &[],
+            },
+            Wanted {
+                row: 0,
+                tick: 2,
+                frames: 167,
+                sound: &[],
+            },
+            Wanted {
+                row: 0,
+                tick: 3,
+                frames: 168,
+                sound: &[],
+            },
+            Wanted {
+                row: 0,
+                tick: 4,
+                frames: 167,
+                sound: &[],
+            },
+            Wanted {
+                row: 0,
+                tick: 5,
+                frames: 167,
+                sound: &[],
+            },
+            Wanted {
+                row: 1,
+                tick: 0,
+                frames: 167,
+                sound: &[],
+            },
+        ],
+    );
     assert!(rt; right);
     Ok(())
 }
@@ -129,12 +169,37 @@ fn a_long_sample_sounds_on(rt: HostRuntime) -> Result<(), Fail> {
     let mut song = one_note_module(rt.alloc())?;
     let sample = sample_of(rt.alloc(), &[64; 400])?;
     song.instruments = Items::from_vec(vec![in rt.alloc(); instrument_of(rt.alloc(), sample)?]?);
-    let right = song_plays(rt.alloc(), &song, 8_363, &[
-        Wanted { row: 0, tick: 0, frames: 167, sound: &[2048; 334] },
-        Wanted { row: 0, tick: 1, frames: 167, sound: &[2048; 334] },
-        Wanted { row: 0, tick: 2, frames: 167, sound: &[2048; 132] },
-        Wanted { row: 0, tick: 3, frames: 168, sound: &[] },
-    ]);
+    let right = song_plays(
+        rt.alloc(),
+        &song,
+        8_363,
+        &[
+            Wanted {
+                row: 0,
+                tick: 0,
+                frames: 167,
+                sound: &[2048; 334],
+            },
+            Wanted {
+                row: 0,
+                tick: 1,
+                frames: 167,
+                sound: &[2048; 334],
+            },
+            Wanted {
+                row: 0,
+                tick: 2,
+                frames: 167,
+                sound: &[2048; 132],
+            },
+            Wanted {
+                row: 0,
+                tick: 3,
+                frames: 168,
+                sound: &[],
+            },
+        ],
+    );
     assert!(rt; right);
     Ok(())
 }
@@ -142,15 +207,55 @@ fn a_long_sample_sounds_on(rt: HostRuntime) -> Result<(), Fail> {
 #[test]
 fn silence_goes_on_from_row_to_row(rt: HostRuntime) -> Result<(), Fail> {
     let song = silent_module(rt.alloc())?;
-    let right = song_plays(rt.alloc(), &song, 8_000, &[
-        Wanted { row: 0, tick: 0, frames: 160, sound: &[] },
-        Wanted { row: 0, tick: 1, frames: 160, sound: &[] },
-        Wanted { row: 0, tick: 2, frames: 160, sound: &[] },
-        Wanted { row: 0, tick: 3, frames: 160, sound: &[] },
-        Wanted { row: 0, tick: 4, frames: 160, sound: &[] },
-        Wanted { row: 0, tick: 5, frames: 160, sound: &[] },
-        Wanted { row: 1, tick: 0, frames: 160, sound: &[] },
-    ]);
+    let right = song_plays(
+        rt.alloc(),
+        &song,
+        8_000,
+        &[
+            Wanted {
+                row: 0,
+                tick: 0,
+                frames: 160,
+                sound: &[],
+            },
+            Wanted {
+                row: 0,
+                tick: 1,
+                frames: 160,
+                sound: &[],
+            },
+            Wanted {
+                row: 0,
+                tick: 2,
+                frames: 160,
+                sound: &[],
+            },
+            Wanted {
+                row: 0,
+                tick: 3,
+                frames: 160,
+                sound: &[],
+            },
+            Wanted {
+                row: 0,
+                tick: 4,
+                frames: 160,
+                sound: &[],
+            },
+            Wanted {
+                row: 0,
+                tick: 5,
+                frames: 160,
+                sound: &[],
+            },
+            Wanted {
+                row: 1,
+                tick: 0,
+                frames: 160,
+                sound: &[],
+            },
+        ],
+    );
     assert!(rt; right);
     Ok(())
 }
