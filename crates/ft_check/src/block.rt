@@ -174,6 +174,7 @@ fn paste_block(m: &mut Module, q: u8, block: Block, source: &[Cell], c: u8)
 }
 
 /// Copies a block of a pattern, as it was, to a block of a pattern of the song.
+#[inline(never)]
 pub(crate) fn copy_block(
     alloc: Global,
     m: &mut Module,

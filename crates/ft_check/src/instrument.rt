@@ -181,6 +181,7 @@ fn change(alloc: Global, instrument: &mut Instrument, how: InstrumentChange) -> 
 }
 
 /// Changes an instrument of the song; they count from 1.
+#[inline(never)]
 pub(crate) fn change_instrument(
     alloc: Global,
     m: &mut Module,

@@ -245,6 +245,7 @@ fn paste_in(
 }
 
 /// Changes a sample of the song.
+#[inline(never)]
 pub(crate) fn change_sample(alloc: Global, m: &mut Module, i: u8, s: u8, how: SampleChange)
     requires valid { IsValid m.old }
     requires some { 0 < i }
@@ -258,6 +259,7 @@ pub(crate) fn change_sample(alloc: Global, m: &mut Module, i: u8, s: u8, how: Sa
 }
 
 /// Puts frames into a sample of the song.
+#[inline(never)]
 pub(crate) fn paste_into(
     alloc: Global,
     m: &mut Module,

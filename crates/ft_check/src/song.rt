@@ -61,6 +61,7 @@ fn empty_pattern(alloc: Global, channels: u8, n: u16) -> Result<Pattern, NoMemor
 }
 
 /// Appends an empty pattern.
+#[inline(never)]
 pub(crate) fn add_pattern(alloc: Global, m: &mut Module, n: u16) -> Result<(), NoMemory>
     ensures ok { OnOk result (m.new
         ≡ record m.old { patterns = m.old.patterns ++ empty_pattern m.old.channels n ∷ [] }) }
@@ -82,6 +83,7 @@ fn remove_last(patterns: &mut Patterns)
 }
 
 /// Takes the last pattern of the song out.
+#[inline(never)]
 pub(crate) fn remove_pattern(m: &mut Module)
     ensures { m.new ≡ record m.old { patterns = without_last m.old.patterns } }
 {
@@ -89,6 +91,7 @@ pub(crate) fn remove_pattern(m: &mut Module)
 }
 
 /// Appends an instrument that is all 0.
+#[inline(never)]
 pub(crate) fn add_instrument(alloc: Global, m: &mut Module) -> Result<(), NoMemory>
     ensures ok { OnOk result (m.new
         ≡ record m.old { instruments = m.old.instruments ++ zero_instrument ∷ [] }) }

@@ -97,7 +97,7 @@ pub fn transpose(line: &mut Cursor) -> Result<Edit, LineFault>
     Ok(Edit::Transpose { p, r, c, h, w, d })
 }
 
-/// `copy P R C H W Q R2 C2`.
+/// `copy P R C H W Q QR QC`.
 #[tactic(auto, unfolding(crate::specs::Edits::copy_reading))]
 pub fn copy(line: &mut Cursor) -> Result<Edit, LineFault>
     ensures value { Reads (λ edit. edit) result line.new (copy_reading line.old) }
