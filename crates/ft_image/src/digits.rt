@@ -4,16 +4,12 @@ ghost use Rattle.std.specs.Prelude.{◌≡◌, ◌<◌};
 ghost use Rattle.ft_segments.specs.Packing.{digit};
 
 /// One of the four numbers of 16 bits in a word, the first in the lowest bits.
+#[inline]
 pub fn quarter(word: u64, place: u8) -> u16
     requires { place < 4 }
     ensures { result ≡ digit 65536 word place }
 {
-    match place {
-        0 => (word % 65536) as u16,
-        1 => (word / 65536 % 65536) as u16,
-        2 => (word / 65536 / 65536 % 65536) as u16,
-        _ => (word / 65536 / 65536 / 65536 % 65536) as u16,
-    }
+    ((word >> (16 * u32::from(place))) % 65536) as u16
 }
 
 /// One of the lower four bytes of a word.
