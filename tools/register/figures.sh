@@ -28,8 +28,10 @@ tenths() { echo "$(($1 / 10)).$(($1 % 10))"; }
 look=$(per_round look)
 publish=$(per_round publish)
 turn=$(per_round turn)
+scan=$(per_round scan)
 echo "look: $(tenths "$look") instructions, with its loop"
 echo "publish with its scan, 8 readers: $(tenths "$publish") instructions"
+echo "a whole scan, 8 readers of 32 channels: $(tenths "$scan") instructions"
 echo "take and leave together: $(tenths $((turn - publish - look))) instructions"
 
 echo "the locked instructions of take and leave, and the two exchanges of publish:"

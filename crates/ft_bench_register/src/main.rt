@@ -1,7 +1,8 @@
 //! Counts of the register's calls, to be measured from outside by tools/register.
 //!
-//! `look N`, `turn N` and `publish N` make N rounds at 8 readers; `open N` and `copy N`
-//! open the default pool N times, or copy as many bytes. With no words each is done once.
+//! `look N`, `turn N` and `publish N` make N rounds at 8 readers of one channel, `scan N` N whole
+//! scans at 8 readers of 32 channels; `open N` and `copy N` open the default pool N times, or copy
+//! as many bytes. With no words each is done once.
 #![tactic(auto)]
 
 ghost use Rattle.std.specs.Prelude.{◌≡◌, ℕ, ◌+◌, ◌*◌, ◌%◌, ◌<◌, ◌≤◌, None, IfOk, IsTrue, length};
@@ -50,26 +51,47 @@ fn scan_slots(shared: &Shared, writer: &mut WriterPass)
     }
 }
 
-/// Looks at the pin of a reader.
-fn scan_pin(shared: &Shared, writer: &mut WriterPass, reader: u8)
+/// Looks at a pin.
+fn scan_pin(shared: &Shared, writer: &mut WriterPass, reader: u8, channel: u8)
     requires same { writer.old.register ≡ shared.now }
-    requires sizes { (reader < shared.now.sizes.readers) × (shared.now.sizes.channels ≡ 1) }
+    requires reader { reader < shared.now.sizes.readers }
+    requires channel { channel < shared.now.sizes.channels }
     requires met { SlotsAreMet shared.now.sizes writer.old.account }
     ensures same { writer.new.register ≡ writer.old.register }
     ensures met { SlotsAreMet shared.now.sizes writer.new.account }
     ensures left { (writer.new.account.version ≡ writer.old.account.version)
         × (writer.new.account.pool ≡ writer.old.account.pool) }
-    ensures before { (r : ℕ) → IsPinMet writer.old.account r 0
-        → IsPinMet writer.new.account r 0 }
-    ensures this { IsPinMet writer.new.account reader 0 }
+    ensures before { (r c : ℕ) → IsPinMet writer.old.account r c
+        → IsPinMet writer.new.account r c }
+    ensures this { IsPinMet writer.new.account reader channel }
 {
-    shared.scan_pin(writer, reader, 0);
+    shared.scan_pin(writer, reader, channel);
 }
 
-/// Looks at the one pin of each reader.
-fn scan_pins(shared: &Shared, writer: &mut WriterPass)
+/// Looks at the pins of a reader.
+fn scan_reader(shared: &Shared, writer: &mut WriterPass, reader: u8, channels: u8)
     requires same { writer.old.register ≡ shared.now }
-    requires sizes { (shared.now.sizes.readers ≡ 8) × (shared.now.sizes.channels ≡ 1) }
+    requires reader { reader < shared.now.sizes.readers }
+    requires channels { channels ≡ shared.now.sizes.channels }
+    requires met { SlotsAreMet shared.now.sizes writer.old.account }
+    ensures same { writer.new.register ≡ writer.old.register }
+    ensures met { SlotsAreMet shared.now.sizes writer.new.account }
+    ensures left { (writer.new.account.version ≡ writer.old.account.version)
+        × (writer.new.account.pool ≡ writer.old.account.pool) }
+    ensures before { (r c : ℕ) → IsPinMet writer.old.account r c
+        → IsPinMet writer.new.account r c }
+    ensures all { (c : ℕ) → c < channels → IsPinMet writer.new.account reader c }
+{
+    for channel in 0..channels {
+        scan_pin(shared, writer, reader, channel);
+    }
+}
+
+/// Looks at the pins of all readers.
+fn scan_pins(shared: &Shared, writer: &mut WriterPass, channels: u8)
+    requires same { writer.old.register ≡ shared.now }
+    requires readers { shared.now.sizes.readers ≡ 8 }
+    requires channels { channels ≡ shared.now.sizes.channels }
     requires met { SlotsAreMet shared.now.sizes writer.old.account }
     ensures same { writer.new.register ≡ writer.old.register }
     ensures whole { IsWhole shared.now.sizes writer.new.account }
@@ -77,7 +99,19 @@ fn scan_pins(shared: &Shared, writer: &mut WriterPass)
         × (writer.new.account.pool ≡ writer.old.account.pool) }
 {
     for reader in 0..8 {
-        scan_pin(shared, writer, reader);
+        scan_reader(shared, writer, reader, channels);
+    }
+}
+
+/// N whole scans.
+fn scan_often(shared: &Shared, writer: &mut WriterPass, channels: u8, rounds: u32)
+    requires same { writer.old.register ≡ shared.now }
+    requires readers { shared.now.sizes.readers ≡ 8 }
+    requires channels { channels ≡ shared.now.sizes.channels }
+{
+    for _done in 0..rounds {
+        scan_slots(shared, writer);
+        scan_pins(shared, writer, channels);
     }
 }
 
@@ -94,7 +128,7 @@ fn publish_next(shared: &Shared, writer: &mut WriterPass) -> u32
         × (writer.new.account.version ≡ result) }
 {
     scan_slots(shared, writer);
-    scan_pins(shared, writer);
+    scan_pins(shared, writer, 1);
     a_bare_root_names_itself();
     shared.publish(writer, 0)
 }
@@ -170,6 +204,7 @@ enum Kind {
     Look,
     Turn,
     Publish,
+    Scan,
     Open,
     Copy,
 }
@@ -221,9 +256,20 @@ fn measure<L: Ledger>(alloc: Global, blank: Blank, kind: Kind, rounds: u32) -> R
         Kind::Look => look_often(&shared, &mut reader, rounds, &mut steps),
         Kind::Turn => turn_often(&shared, &mut writer, &mut reader, rounds, &mut steps),
         Kind::Publish => publish_often(&shared, &mut writer, rounds),
+        Kind::Scan => scan_wide(alloc, &words, rounds)?,
         Kind::Open => open_often(alloc, rounds)?,
         Kind::Copy => copy_often(alloc, rounds)?,
     }
+    Ok(())
+}
+
+/// N whole scans at 8 readers of 32 channels.
+fn scan_wide(alloc: Global, words: &[u64], rounds: u32) -> Result<()>
+    requires words { length words.now ≡ 256 }
+    requires bare { word_at words.now 0 1 ≡ 0 }
+{
+    let (shared, mut writer, _passes) = opened(alloc, 64, 8, 32, words)?;
+    scan_often(&shared, &mut writer, 32, rounds);
     Ok(())
 }
 
@@ -254,6 +300,7 @@ fn kind_of(word: &str) -> Option<Kind> {
         "look" => Some(Kind::Look),
         "turn" => Some(Kind::Turn),
         "publish" => Some(Kind::Publish),
+        "scan" => Some(Kind::Scan),
         "open" => Some(Kind::Open),
         "copy" => Some(Kind::Copy),
         _ => None,
@@ -268,6 +315,7 @@ fn main(rt: HostRuntime) -> Result<()> {
             Kind::Look,
             Kind::Turn,
             Kind::Publish,
+            Kind::Scan,
             Kind::Open,
             Kind::Copy,
         ] {
@@ -276,7 +324,7 @@ fn main(rt: HostRuntime) -> Result<()> {
         return Ok(());
     };
     let Some(kind) = kind_of(word.as_str()) else {
-        return Err(anyhow!("look, turn, publish, open or copy, and a number"));
+        return Err(anyhow!("look, turn, publish, scan, open or copy, and a number"));
     };
     let rounds = match words.next() {
         Some(number) => number.as_str().parse()?,

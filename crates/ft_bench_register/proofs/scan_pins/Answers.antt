@@ -7,25 +7,23 @@ use Rattle.ft_bench_register.proofs.scan_pins.Goals as goal
 pub loop-reader-preserved : goal.loop-reader-preserved
 loop-reader-preserved c =
     let old = c.loop-reader.invariant in
-    let new = c.scan_pin.ensures in
+    let new = c.scan_reader.ensures in
     record {
       same = new.same ∙ old.same;
       met = new.met;
       version = new.left.0 ∙ old.version;
       pool = new.left.1 ∙ old.pool;
-      all = λ r less. dite (ℕ_discrete r c.loop-reader.reader)
-          (λ (e : r ≡ c.loop-reader.reader). subst (λ (k : ℕ). IsPinMet c.scan_pin.new.writer.account k 0) (sym e) new.this)
-          (λ (e : r ≢ c.loop-reader.reader). new.before r (old.all r (omega arith)));
+      all = λ r ch less inside. dite (ℕ_discrete r c.loop-reader.reader)
+          (λ (e : r ≡ c.loop-reader.reader). subst (λ (k : ℕ). IsPinMet c.scan_reader.new.writer.account k ch) (sym e) (new.all ch inside))
+          (λ (e : r ≢ c.loop-reader.reader). new.before r ch (old.all r ch (omega arith) inside));
     }
 
 pub returns-clause-whole : goal.returns-clause-whole
 returns-clause-whole c =
     let known = c.loop-reader.invariant in
     let over = c.loop-reader-test.false in
-    let sizes = c.requires.sizes in
-    let one = sizes.1 in
-    let eight = sizes.0 in (
+    let eight = c.requires.readers in
+    let wide = c.requires.channels in (
       known.met,
-      λ r ch less inside. let zero : ch ≡ 0 = omega arith in
-          subst (λ (k : ℕ). IsPinMet c.loop-reader.writer.account r k) (sym zero) (known.all r (omega arith)),
+      λ r ch less inside. known.all r ch (omega arith) (omega arith),
     )

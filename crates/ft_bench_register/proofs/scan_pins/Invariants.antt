@@ -8,5 +8,5 @@ invariant-loop-reader l = record {
   met : SlotsAreMet l.shared.sizes l.writer.account;
   version : l.writer.account.version ≡ l.fn.writer.account.version;
   pool : l.writer.account.pool ≡ l.fn.writer.account.pool;
-  all : (r : ℕ) → r < l.reader → IsPinMet l.writer.account r 0;
+  all : (r c : ℕ) → r < l.reader → c < l.channels → IsPinMet l.writer.account r c;
 }
