@@ -1,6 +1,6 @@
 //! Loops. The numbers here were worked out from the rules, outside of this program.
 
-ghost use Rattle.std.specs.Prelude.{◌≤◌, ◌+◌};
+ghost use Rattle.std.specs.Prelude.{◌≡◌, ◌≤◌, ◌+◌, ◌%◌, length};
 ghost use Rattle.ft_types.specs.Valid.{IsValid, IsValidHead};
 
 use arrayvec::ArrayVec;
@@ -21,10 +21,15 @@ static PLACES: [(bool, u32, u32, [u32; 9]); 6] = [
 ];
 
 /// The first sample of the song of 7, played from its last frame but one on by one and a half frames
-/// at once: eight frames of output, left and right in turn.
-static MIXED: [i16; 16] = [
+/// at once: twenty frames of output, left and right in turn.
+static MIXED: [i16; 40] = [
     5769, 2884, -5925, -2963, 3064, 1532, 5903, 2951, 547, 273, -2812, -1406, -4980, -2490, 95, 47,
+    -2108, -1054, 5392, 2696, -2740, -1370, 1, 0, 4184, 2092, 4491, 2245, 5225, 2612, -2259, -1130,
+    -2859, -1430, 182, 91, 3263, 1631, 1166, 583,
 ];
+
+/// What stands where nothing was written.
+const LEFT: i16 = 7_777;
 
 /// The head of a sample that ends with its loop.
 fn looped(there_and_back: bool, start: u32, len: u32) -> SampleHead
@@ -61,9 +66,20 @@ fn loops_have_their_places(rt: HostRuntime) -> Result<(), Fail> {
     Ok(())
 }
 
-/// What eight frames of a voice are, and where it is then; none where it has ended.
-fn played(song: &Module) -> Option<([i16; 16], u64)>
-    requires { IsValid song.now }
+/// Where the voice is after so many frames, in half frames of its sample of 16,384: its loop is the
+/// whole of it.
+fn halves_after(frames: usize) -> u64
+    requires { frames ≤ 20 }
+{
+    (2 * 16_382 + 3 * frames as u64) % (2 * 16_384)
+}
+
+/// Mixes so many frames of a voice, and gives where it is then; none where it has ended.
+fn play(song: &Module, out: &mut [i16]) -> Option<u64>
+    requires song { IsValid song.now }
+    requires even { length out.old % 2 ≡ 0 }
+    requires few { length out.old ≤ 40 }
+    ensures many { length out.new ≡ length out.old }
 {
     let mut view = ModuleView::new(song);
     let head = view.start(0, 1, 48)?;
@@ -77,20 +93,33 @@ fn played(song: &Module) -> Option<([i16; 16], u64)>
         right: 32768,
         last: false,
     });
-    let mut out = [0; 16];
-    mix(&mut view, &mut voices, &mut out);
-    let voice = voices.as_slice().first()?;
-    Some((out, voice.pos))
+    mix(&mut view, &mut voices, out);
+    Some(voices.as_slice().first()?.pos)
 }
 
-/// Whether the song of 7 is played over its loop's end.
-fn is_played(alloc: Global) -> Result<bool, AllocError> {
+/// Whether the song of 7 is played over its loop's end by so many frames, and nothing is written
+/// behind them.
+fn is_played(song: &Module, frames: usize) -> bool
+    requires song { IsValid song.now }
+    requires few { frames ≤ 20 }
+{
+    let mut out = [LEFT; 42];
+    let pos = play(song, &mut out[..2 * frames]);
+    pos == Some(halves_after(frames) << 31)
+        && out[..2 * frames] == MIXED[..2 * frames]
+        && out[2 * frames..].iter().all(|number| *number == LEFT)
+}
+
+/// Whether it is played by each number of frames from 0 to 20.
+fn are_played(alloc: Global) -> Result<bool, AllocError> {
     let song = generate(alloc, 7).map_err(|_| AllocError)?;
-    Ok(played(&song) == Some((MIXED, 10 << 32)))
+    Ok((0..21).all(|frames| is_played(&song, frames)))
 }
 
 #[test]
-fn a_looped_sample_goes_on_from_its_start(rt: HostRuntime) -> Result<(), Fail> {
-    assert!(rt; is_played(rt.alloc())?);
+fn a_looped_sample_goes_on_from_its_start_by_any_number_of_frames(
+    rt: HostRuntime,
+) -> Result<(), Fail> {
+    assert!(rt; are_played(rt.alloc())?);
     Ok(())
 }

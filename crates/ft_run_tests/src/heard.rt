@@ -74,13 +74,28 @@ const FAST_ROW: Row = Row {
     long: 4,
 };
 
+/// A second at 44,100 frames a second.
+const FINE_ROW: Row = Row {
+    words: "step s w l --rate=44100 --seconds=1",
+    frames: 44_100,
+    instruments: &[LONG],
+    ..FAST_ROW
+};
+
+/// A note in the row after thirteen, and no other for a second.
+const AFTER_THIRTEEN: [(u8, u8); 99] = {
+    let mut rows = [NONE; 99];
+    rows[13] = NOTE;
+    rows
+};
+
 /// A first note, and then one that stops it.
 const STOPPED: Row = Row {
     patterns: &[&[NOTE, (49, 2), NONE, NONE, NONE, NONE, NONE, NONE, NONE]],
     ..SLOW_ROW
 };
 
-static ROWS: [Row; 14] = [
+static ROWS: [Row; 16] = [
     // A second note begins its sample again.
     Row {
         head: Head {
@@ -170,6 +185,22 @@ static ROWS: [Row; 14] = [
         head: LOW,
         patterns: &[&[NONE]],
         ..FAST_ROW
+    },
+    // At BPM 130 each 13th tick has 849 frames in place of 848. At BPM 33 ticks have 3,340 or
+    // 3,341, and tick 13 is cut to 669.
+    Row {
+        head: Head { bpm: 130, ..FAST },
+        patterns: &[&AFTER_THIRTEEN],
+        starts: &[11_025],
+        long: 33_075,
+        ..FINE_ROW
+    },
+    Row {
+        head: Head { bpm: 33, ..FAST },
+        patterns: &[&AFTER_THIRTEEN],
+        starts: &[43_431],
+        long: 669,
+        ..FINE_ROW
     },
     Row {
         words: "step s w l --rate=48000 --seconds=1",

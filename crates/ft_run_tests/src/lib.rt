@@ -10,6 +10,8 @@ mod heard;
 #[cfg(test)]
 mod lines;
 #[cfg(test)]
+mod loud;
+#[cfg(test)]
 mod most;
 #[cfg(test)]
 mod outside;
