@@ -82,11 +82,15 @@ const FINE_ROW: Row = Row {
     ..FAST_ROW
 };
 
-/// A note in the row after thirteen, and no other for a second.
-const AFTER_THIRTEEN: [(u8, u8); 99] = {
-    let mut rows = [NONE; 99];
-    rows[13] = NOTE;
-    rows
+/// A note in the row after thirteen, and no other.
+const AFTER_THIRTEEN: &[&[(u8, u8)]] = &[&[NONE; 13], &[NOTE], &[NONE; 256]];
+
+/// One tick a row, in the orders of these patterns.
+const THIRTEEN: Head<'static> = Head {
+    orders: &[0, 1, 2],
+    restart: 2,
+    patterns: 3,
+    ..FAST
 };
 
 /// A first note, and then one that stops it.
@@ -189,15 +193,21 @@ static ROWS: [Row; 16] = [
     // At BPM 130 each 13th tick has 849 frames in place of 848. At BPM 33 ticks have 3,340 or
     // 3,341, and tick 13 is cut to 669.
     Row {
-        head: Head { bpm: 130, ..FAST },
-        patterns: &[&AFTER_THIRTEEN],
+        head: Head {
+            bpm: 130,
+            ..THIRTEEN
+        },
+        patterns: AFTER_THIRTEEN,
         starts: &[11_025],
         long: 33_075,
         ..FINE_ROW
     },
     Row {
-        head: Head { bpm: 33, ..FAST },
-        patterns: &[&AFTER_THIRTEEN],
+        head: Head {
+            bpm: 33,
+            ..THIRTEEN
+        },
+        patterns: AFTER_THIRTEEN,
         starts: &[43_431],
         long: 669,
         ..FINE_ROW
