@@ -1,6 +1,6 @@
 //! What moves volumes and pannings. A note with its instrument has volume 64 and panning 128.
 
-use crate::playing::{ROW, Row, What, shows};
+use crate::playing::{ROW, Row, What, first_wrong};
 use crate::song::{SONG, Song};
 use std::test::Fail;
 
@@ -281,8 +281,6 @@ static LEVELS: [Row; 24] = [
 
 #[test]
 fn levels_move(rt: HostRuntime) -> Result<(), Fail> {
-    for row in LEVELS.iter() {
-        assert_eq!(rt; shows(rt.alloc(), row), Ok(true), "{}", row.name);
-    }
+    assert_eq!(rt; first_wrong(rt.alloc(), &LEVELS)?, None);
     Ok(())
 }

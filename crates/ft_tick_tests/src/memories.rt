@@ -1,14 +1,8 @@
 //! What each effect remembers: a parameter of 0 stands for the last that wasn't 0.
 
-use crate::playing::{ROW, Row, What, shows};
-use crate::song::{SONG, Song};
+use crate::playing::{ROW, Row, What, first_wrong};
+use crate::song::{ONE_TICK, Song, THREE_TICKS, TWO_TICKS};
 use std::test::Fail;
-
-/// Two ticks a row.
-const SHORT: Song = Song { tempo: 2, ..SONG };
-
-/// One tick a row, so that there is no later tick.
-const FAST: Song = Song { tempo: 1, ..SONG };
 
 static MEMORIES: [Row; 19] = [
     // 8 less at tick 1 of both rows.
@@ -16,7 +10,7 @@ static MEMORIES: [Row; 19] = [
         name: "portamento_up_remembers",
         song: Song {
             cells: &[(0, 49, 1, 0, 1, 2), (1, 0, 0, 0, 1, 0)],
-            ..SHORT
+            ..TWO_TICKS
         },
         values: &[4608, 4600, 4600, 4592],
         ..ROW
@@ -26,7 +20,7 @@ static MEMORIES: [Row; 19] = [
         name: "portamento_down_remembers",
         song: Song {
             cells: &[(0, 49, 1, 0, 2, 2), (1, 0, 0, 0, 2, 0)],
-            ..SHORT
+            ..TWO_TICKS
         },
         values: &[4608, 4616, 4616, 4624],
         ..ROW
@@ -37,7 +31,7 @@ static MEMORIES: [Row; 19] = [
         song: Song {
             cells: &[(0, 0, 0, 0, 9, 1), (1, 49, 1, 0, 9, 0)],
             frames: 300,
-            ..SHORT
+            ..TWO_TICKS
         },
         what: What::Frame,
         values: &[-1, -1, 256],
@@ -48,7 +42,7 @@ static MEMORIES: [Row; 19] = [
         name: "a_volume_slide_remembers",
         song: Song {
             cells: &[(0, 49, 1, 0, 10, 2), (1, 0, 0, 0, 10, 0)],
-            ..SHORT
+            ..TWO_TICKS
         },
         what: What::Volume,
         values: &[64, 62, 62, 60],
@@ -59,7 +53,7 @@ static MEMORIES: [Row; 19] = [
         name: "slides_of_effects_5_6_and_a_remember_as_one",
         song: Song {
             cells: &[(0, 49, 1, 0, 5, 2), (1, 0, 0, 0, 6, 0), (2, 0, 0, 0, 10, 0)],
-            ..SHORT
+            ..TWO_TICKS
         },
         what: What::Volume,
         values: &[64, 62, 62, 60, 60, 58],
@@ -70,7 +64,7 @@ static MEMORIES: [Row; 19] = [
         name: "fine_portamento_up_remembers",
         song: Song {
             cells: &[(0, 49, 1, 0, 14, 0x12), (1, 0, 0, 0, 14, 0x10)],
-            ..SHORT
+            ..TWO_TICKS
         },
         values: &[4600, 4600, 4592, 4592],
         ..ROW
@@ -80,7 +74,7 @@ static MEMORIES: [Row; 19] = [
         name: "fine_portamento_down_remembers",
         song: Song {
             cells: &[(0, 49, 1, 0, 14, 0x22), (1, 0, 0, 0, 14, 0x20)],
-            ..SHORT
+            ..TWO_TICKS
         },
         values: &[4616, 4616, 4624, 4624],
         ..ROW
@@ -90,7 +84,7 @@ static MEMORIES: [Row; 19] = [
         name: "fine_volume_up_remembers",
         song: Song {
             cells: &[(0, 49, 1, 0x20, 14, 0xA2), (1, 0, 0, 0, 14, 0xA0)],
-            ..SHORT
+            ..TWO_TICKS
         },
         what: What::Volume,
         values: &[18, 18, 20, 20],
@@ -101,7 +95,7 @@ static MEMORIES: [Row; 19] = [
         name: "fine_volume_down_remembers",
         song: Song {
             cells: &[(0, 49, 1, 0x20, 14, 0xB2), (1, 0, 0, 0, 14, 0xB0)],
-            ..SHORT
+            ..TWO_TICKS
         },
         what: What::Volume,
         values: &[14, 14, 12, 12],
@@ -112,7 +106,7 @@ static MEMORIES: [Row; 19] = [
         name: "a_global_slide_remembers",
         song: Song {
             cells: &[(0, 0, 0, 0, 17, 4), (1, 0, 0, 0, 17, 0)],
-            ..SHORT
+            ..TWO_TICKS
         },
         what: What::Global,
         values: &[64, 60, 60, 56],
@@ -123,7 +117,7 @@ static MEMORIES: [Row; 19] = [
         name: "a_panning_slide_remembers",
         song: Song {
             cells: &[(0, 49, 1, 0, 25, 3), (1, 0, 0, 0, 25, 0)],
-            ..SHORT
+            ..TWO_TICKS
         },
         what: What::Panning,
         values: &[128, 125, 125, 122],
@@ -134,7 +128,7 @@ static MEMORIES: [Row; 19] = [
         name: "a_retrigger_remembers_its_change",
         song: Song {
             cells: &[(0, 49, 1, 0x38, 27, 0x11), (1, 0, 0, 0, 27, 0x01)],
-            ..SHORT
+            ..TWO_TICKS
         },
         what: What::Volume,
         values: &[40, 39, 39, 38],
@@ -145,7 +139,7 @@ static MEMORIES: [Row; 19] = [
         name: "a_retrigger_remembers_its_interval",
         song: Song {
             cells: &[(0, 49, 1, 0x38, 27, 0x11), (1, 0, 0, 0, 27, 0x20)],
-            ..SHORT
+            ..TWO_TICKS
         },
         what: What::Volume,
         values: &[40, 39, 39, 37],
@@ -156,8 +150,7 @@ static MEMORIES: [Row; 19] = [
         name: "a_tremor_remembers",
         song: Song {
             cells: &[(0, 49, 1, 0, 29, 0x20), (1, 0, 0, 0, 29, 0)],
-            tempo: 3,
-            ..SHORT
+            ..THREE_TICKS
         },
         what: What::Muted,
         values: &[0, 0, 0, 0, 1, 0],
@@ -168,7 +161,7 @@ static MEMORIES: [Row; 19] = [
         name: "extra_fine_up_remembers",
         song: Song {
             cells: &[(0, 49, 1, 0, 33, 0x12), (1, 0, 0, 0, 33, 0x10)],
-            ..SHORT
+            ..TWO_TICKS
         },
         values: &[4606, 4606, 4604, 4604],
         ..ROW
@@ -178,7 +171,7 @@ static MEMORIES: [Row; 19] = [
         name: "extra_fine_down_remembers",
         song: Song {
             cells: &[(0, 49, 1, 0, 33, 0x22), (1, 0, 0, 0, 33, 0x20)],
-            ..SHORT
+            ..TWO_TICKS
         },
         values: &[4610, 4610, 4612, 4612],
         ..ROW
@@ -188,7 +181,7 @@ static MEMORIES: [Row; 19] = [
         name: "effects_of_later_ticks_remember_without_one",
         song: Song {
             cells: &[(0, 0, 0, 0, 1, 5), (1, 0, 0, 0, 1, 0), (2, 0, 0, 0, 1, 7)],
-            ..FAST
+            ..ONE_TICK
         },
         what: What::Memory(0),
         values: &[5, 5, 7],
@@ -199,7 +192,7 @@ static MEMORIES: [Row; 19] = [
         name: "up_and_down_remember_apart",
         song: Song {
             cells: &[(0, 0, 0, 0, 2, 5), (1, 0, 0, 0, 1, 7)],
-            ..FAST
+            ..ONE_TICK
         },
         what: What::Memory(1),
         values: &[5, 5],
@@ -210,7 +203,7 @@ static MEMORIES: [Row; 19] = [
         name: "effect_8_remembers_nothing",
         song: Song {
             cells: &[(0, 49, 1, 0, 8, 16), (1, 0, 0, 0, 8, 0)],
-            ..FAST
+            ..ONE_TICK
         },
         what: What::Panning,
         values: &[16, 0],
@@ -220,8 +213,6 @@ static MEMORIES: [Row; 19] = [
 
 #[test]
 fn effects_remember(rt: HostRuntime) -> Result<(), Fail> {
-    for row in MEMORIES.iter() {
-        assert_eq!(rt; shows(rt.alloc(), row), Ok(true), "{}", row.name);
-    }
+    assert_eq!(rt; first_wrong(rt.alloc(), &MEMORIES)?, None);
     Ok(())
 }

@@ -1,24 +1,19 @@
 //! Notes that begin, or don't, and instrument bytes. C-4 has the period 4608.
 
-use crate::playing::{ROW, Row, What, shows};
-use crate::song::{SONG, Song};
+use crate::playing::{ROW, Row, What, first_wrong};
+use crate::song::{ONE_TICK, SONG, Song, THREE_TICKS};
 use std::test::Fail;
-
-/// One tick a row.
-const FAST: Song = Song { tempo: 1, ..SONG };
 
 /// A sample of 300 frames.
 const LONG: Song = Song {
-    tempo: 1,
     frames: 300,
-    ..SONG
+    ..ONE_TICK
 };
 
 /// A volume envelope that is on.
 const ON: Song = Song {
-    tempo: 1,
     envelope: 1,
-    ..SONG
+    ..ONE_TICK
 };
 
 static NOTES: [Row; 22] = [
@@ -27,7 +22,7 @@ static NOTES: [Row; 22] = [
         name: "a_note_without_instrument_keeps_its_volume",
         song: Song {
             cells: &[(0, 49, 1, 0x20, 0, 0), (1, 51, 0, 0, 0, 0)],
-            ..FAST
+            ..ONE_TICK
         },
         what: What::Volume,
         values: &[16, 16],
@@ -38,7 +33,7 @@ static NOTES: [Row; 22] = [
         name: "a_note_without_instrument_keeps_its_panning",
         song: Song {
             cells: &[(0, 49, 1, 0, 8, 0x10), (1, 51, 0, 0, 0, 0)],
-            ..FAST
+            ..ONE_TICK
         },
         what: What::Panning,
         values: &[16, 16],
@@ -49,7 +44,7 @@ static NOTES: [Row; 22] = [
         name: "an_instrument_without_a_note_gives_its_volume",
         song: Song {
             cells: &[(0, 49, 1, 0x20, 0, 0), (1, 0, 1, 0, 0, 0)],
-            ..FAST
+            ..ONE_TICK
         },
         what: What::Volume,
         values: &[16, 64],
@@ -60,7 +55,7 @@ static NOTES: [Row; 22] = [
         name: "an_instrument_without_a_note_gives_its_panning",
         song: Song {
             cells: &[(0, 49, 1, 0, 8, 0x10), (1, 0, 1, 0, 0, 0)],
-            ..FAST
+            ..ONE_TICK
         },
         what: What::Panning,
         values: &[16, 128],
@@ -71,7 +66,7 @@ static NOTES: [Row; 22] = [
         name: "a_missing_instrument_gives_the_volume_of_the_voice",
         song: Song {
             cells: &[(0, 49, 1, 0x20, 0, 0), (1, 0, 9, 0, 0, 0)],
-            ..FAST
+            ..ONE_TICK
         },
         what: What::Volume,
         values: &[16, 64],
@@ -82,7 +77,7 @@ static NOTES: [Row; 22] = [
         name: "an_instrument_byte_is_kept",
         song: Song {
             cells: &[(0, 49, 1, 0, 0, 0), (1, 0, 9, 0, 0, 0)],
-            ..FAST
+            ..ONE_TICK
         },
         what: What::Instrument,
         values: &[1, 9, 9],
@@ -93,7 +88,7 @@ static NOTES: [Row; 22] = [
         name: "an_instrument_without_a_note_ends_a_release",
         song: Song {
             cells: &[(0, 49, 1, 0, 20, 0), (1, 0, 1, 0, 0, 0)],
-            ..FAST
+            ..ONE_TICK
         },
         what: What::Released,
         values: &[1, 0],
@@ -103,7 +98,7 @@ static NOTES: [Row; 22] = [
         name: "an_instrument_without_a_voice_gives_full_fade",
         song: Song {
             cells: &[(1, 0, 1, 0, 0, 0)],
-            ..FAST
+            ..ONE_TICK
         },
         what: What::Fade,
         values: &[0, 32768],
@@ -114,7 +109,7 @@ static NOTES: [Row; 22] = [
         name: "an_instrument_begins_envelopes_anew",
         song: Song {
             cells: &[(0, 49, 1, 0, 21, 9), (1, 0, 0, 0, 0, 0), (2, 0, 1, 0, 0, 0)],
-            ..FAST
+            ..ONE_TICK
         },
         what: What::EnvelopePosition,
         values: &[9, 9, 0],
@@ -124,7 +119,7 @@ static NOTES: [Row; 22] = [
         name: "a_missing_instrument_stops_the_voice",
         song: Song {
             cells: &[(0, 49, 1, 0, 0, 0), (1, 51, 9, 0, 0, 0)],
-            ..FAST
+            ..ONE_TICK
         },
         what: What::Frame,
         values: &[0, -1],
@@ -134,7 +129,7 @@ static NOTES: [Row; 22] = [
         name: "a_failed_start_keeps_the_period",
         song: Song {
             cells: &[(0, 49, 1, 0, 0, 0), (1, 51, 9, 0, 0, 0)],
-            ..FAST
+            ..ONE_TICK
         },
         values: &[4608, 4608],
         ..ROW
@@ -143,7 +138,7 @@ static NOTES: [Row; 22] = [
         name: "a_failed_start_keeps_the_target",
         song: Song {
             cells: &[(0, 49, 1, 0, 0, 0), (1, 51, 9, 0, 0, 0)],
-            ..FAST
+            ..ONE_TICK
         },
         what: What::Target,
         values: &[4608, 4608],
@@ -155,7 +150,7 @@ static NOTES: [Row; 22] = [
         song: Song {
             cells: &[(0, 49, 1, 0, 0, 0), (1, 50, 1, 0, 0, 0)],
             tuned: (0, 70),
-            ..FAST
+            ..ONE_TICK
         },
         what: What::Frame,
         values: &[0, -1],
@@ -167,7 +162,7 @@ static NOTES: [Row; 22] = [
         song: Song {
             cells: &[(0, 49, 1, 0, 0, 0), (1, 48, 1, 0, 0, 0)],
             tuned: (0, -48),
-            ..FAST
+            ..ONE_TICK
         },
         what: What::Frame,
         values: &[0, -1],
@@ -179,7 +174,7 @@ static NOTES: [Row; 22] = [
         song: Song {
             cells: &[(0, 49, 1, 0, 0, 0), (1, 50, 0, 0, 3, 4)],
             tuned: (0, 70),
-            ..FAST
+            ..ONE_TICK
         },
         what: What::Target,
         values: &[128, 128],
@@ -191,7 +186,7 @@ static NOTES: [Row; 22] = [
         song: Song {
             cells: &[(0, 49, 1, 0, 9, 1)],
             frames: 257,
-            ..FAST
+            ..ONE_TICK
         },
         what: What::Frame,
         values: &[256],
@@ -203,7 +198,7 @@ static NOTES: [Row; 22] = [
         song: Song {
             cells: &[(0, 49, 1, 0, 0, 0), (1, 49, 1, 0, 9, 1)],
             frames: 256,
-            ..FAST
+            ..ONE_TICK
         },
         what: What::Frame,
         values: &[0, -1],
@@ -225,7 +220,7 @@ static NOTES: [Row; 22] = [
         name: "finetune",
         song: Song {
             cells: &[(0, 49, 1, 0, 14, 0x5C)],
-            ..FAST
+            ..ONE_TICK
         },
         values: &[4576, 4576],
         ..ROW
@@ -236,7 +231,7 @@ static NOTES: [Row; 22] = [
         song: Song {
             cells: &[(0, 49, 1, 0, 14, 0x58), (1, 49, 1, 0, 0, 0)],
             tuned: (64, 0),
-            ..FAST
+            ..ONE_TICK
         },
         values: &[4608, 4576],
         ..ROW
@@ -246,7 +241,7 @@ static NOTES: [Row; 22] = [
         name: "finetune_of_one_start_alone",
         song: Song {
             cells: &[(0, 49, 1, 0, 14, 0x5C), (1, 49, 0, 0, 3, 1)],
-            ..FAST
+            ..ONE_TICK
         },
         what: What::Target,
         values: &[4576, 4608],
@@ -256,7 +251,7 @@ static NOTES: [Row; 22] = [
         name: "finetune_without_a_note",
         song: Song {
             cells: &[(0, 49, 1, 0, 0, 0), (1, 0, 0, 0, 14, 0x5C)],
-            ..FAST
+            ..ONE_TICK
         },
         values: &[4608, 4608],
         ..ROW
@@ -265,9 +260,7 @@ static NOTES: [Row; 22] = [
 
 #[test]
 fn notes_begin(rt: HostRuntime) -> Result<(), Fail> {
-    for row in NOTES.iter() {
-        assert_eq!(rt; shows(rt.alloc(), row), Ok(true), "{}", row.name);
-    }
+    assert_eq!(rt; first_wrong(rt.alloc(), &NOTES)?, None);
     Ok(())
 }
 
@@ -277,7 +270,7 @@ static KEYS: [Row; 17] = [
         name: "key_off_silences",
         song: Song {
             cells: &[(0, 49, 1, 0, 0, 0), (1, 97, 0, 0, 0, 0)],
-            ..FAST
+            ..ONE_TICK
         },
         what: What::Volume,
         values: &[64, 0],
@@ -287,7 +280,7 @@ static KEYS: [Row; 17] = [
         name: "key_off_releases",
         song: Song {
             cells: &[(0, 49, 1, 0, 0, 0), (1, 97, 0, 0, 0, 0)],
-            ..FAST
+            ..ONE_TICK
         },
         what: What::Released,
         values: &[0, 1],
@@ -318,7 +311,7 @@ static KEYS: [Row; 17] = [
         name: "key_off_beside_an_instrument_takes_no_volume",
         song: Song {
             cells: &[(0, 49, 1, 0x20, 0, 0), (1, 97, 1, 0, 0, 0)],
-            ..FAST
+            ..ONE_TICK
         },
         what: What::Volume,
         values: &[16, 0],
@@ -328,7 +321,7 @@ static KEYS: [Row; 17] = [
         name: "key_off_beside_an_instrument_releases",
         song: Song {
             cells: &[(0, 49, 1, 0, 0, 0), (1, 97, 1, 0, 0, 0)],
-            ..FAST
+            ..ONE_TICK
         },
         what: What::Released,
         values: &[0, 1],
@@ -372,8 +365,7 @@ static KEYS: [Row; 17] = [
         name: "key_off_past_the_row",
         song: Song {
             cells: &[(0, 49, 1, 0, 20, 3)],
-            tempo: 3,
-            ..SONG
+            ..THREE_TICKS
         },
         what: What::Released,
         values: &[0, 0, 0, 0],
@@ -416,8 +408,7 @@ static KEYS: [Row; 17] = [
         name: "note_delay_past_the_row",
         song: Song {
             cells: &[(0, 49, 1, 0, 14, 0xD3)],
-            tempo: 3,
-            ..SONG
+            ..THREE_TICKS
         },
         what: What::Frame,
         values: &[-1, -1, -1, -1],
@@ -462,8 +453,6 @@ static KEYS: [Row; 17] = [
 
 #[test]
 fn keys_go_off_and_notes_wait(rt: HostRuntime) -> Result<(), Fail> {
-    for row in KEYS.iter() {
-        assert_eq!(rt; shows(rt.alloc(), row), Ok(true), "{}", row.name);
-    }
+    assert_eq!(rt; first_wrong(rt.alloc(), &KEYS)?, None);
     Ok(())
 }

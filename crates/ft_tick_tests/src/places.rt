@@ -5,7 +5,7 @@ ghost use Rattle.ft_types.specs.Valid.{IsValid};
 ghost use Rattle.ft_replay.specs.Range.{IsSongInRange};
 
 use crate::playing::skip;
-use crate::song::{SONG, Song, module_of};
+use crate::song::{ONE_TICK, SONG, Song, module_of};
 use ft_replay::SongState;
 use ft_tick::tick_state;
 use ft_types::{Module, ModuleView, SongView, valid};
@@ -62,8 +62,7 @@ fn leads(alloc: Global, row: &Row) -> Result<bool, AllocError> {
 const SHORT: Song = Song {
     orders: &[0, 0, 0],
     rows: 4,
-    tempo: 1,
-    ..SONG
+    ..ONE_TICK
 };
 
 static ROWS: [Row; 24] = [
@@ -261,8 +260,7 @@ static ROWS: [Row; 24] = [
         song: Song {
             cells: &[(0, 0, 0, 0, 13, 0x64)],
             orders: &[0, 0],
-            tempo: 1,
-            ..SONG
+            ..ONE_TICK
         },
         every: 1,
         places: &[(0, 0, 0), (1, 0, 0)],
@@ -273,8 +271,7 @@ static ROWS: [Row; 24] = [
         song: Song {
             cells: &[(0, 0, 0, 0, 13, 0x63)],
             orders: &[0, 0],
-            tempo: 1,
-            ..SONG
+            ..ONE_TICK
         },
         every: 1,
         places: &[(0, 0, 0), (1, 63, 0), (0, 0, 0)],

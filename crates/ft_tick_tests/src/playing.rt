@@ -158,12 +158,22 @@ fn plays(song: &Module, row: &Row) -> bool
 }
 
 /// Whether the song of a row gives its numbers.
-pub fn shows(alloc: Global, row: &Row) -> Result<bool, AllocError> {
+fn shows(alloc: Global, row: &Row) -> Result<bool, AllocError> {
     let song = module_of(alloc, &row.song)?;
     if !valid(&song) {
         return Ok(false);
     }
     Ok(plays(&song, row))
+}
+
+/// The name of the first row whose song doesn't give its numbers.
+pub fn first_wrong(alloc: Global, rows: &[Row]) -> Result<Option<&'static str>, AllocError> {
+    for row in rows {
+        if !shows(alloc, row)? {
+            return Ok(Some(row.name));
+        }
+    }
+    Ok(None)
 }
 
 /// A row of the song of one note.

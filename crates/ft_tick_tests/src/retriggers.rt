@@ -1,14 +1,13 @@
 //! Retriggers. Effect 9 begins the sample at frame 256, so that frame 0 tells a retrigger.
 
-use crate::playing::{ROW, Row, What, shows};
-use crate::song::{SONG, Song};
+use crate::playing::{ROW, Row, What, first_wrong};
+use crate::song::{SONG, Song, THREE_TICKS, TWO_TICKS};
 use std::test::Fail;
 
 /// A sample of 300 frames, and three ticks a row.
 const LONG: Song = Song {
-    tempo: 3,
     frames: 300,
-    ..SONG
+    ..THREE_TICKS
 };
 
 static RETRIGGERS: [Row; 10] = [
@@ -101,8 +100,7 @@ static RETRIGGERS: [Row; 10] = [
                 (14, 0, 0, 0x38, 27, 0xE1),
                 (15, 0, 0, 0x38, 27, 0xF1),
             ],
-            tempo: 2,
-            ..SONG
+            ..TWO_TICKS
         },
         what: What::Volume,
         values: &[
@@ -148,8 +146,6 @@ static RETRIGGERS: [Row; 10] = [
 
 #[test]
 fn voices_begin_again(rt: HostRuntime) -> Result<(), Fail> {
-    for row in RETRIGGERS.iter() {
-        assert_eq!(rt; shows(rt.alloc(), row), Ok(true), "{}", row.name);
-    }
+    assert_eq!(rt; first_wrong(rt.alloc(), &RETRIGGERS)?, None);
     Ok(())
 }

@@ -1,11 +1,8 @@
 //! What moves a period. C-4 has the linear period 4608, and each semitone above it 64 less.
 
-use crate::playing::{ROW, Row, What, shows};
-use crate::song::{SONG, Song};
+use crate::playing::{ROW, Row, What, first_wrong};
+use crate::song::{ONE_TICK, SONG, Song, THREE_TICKS};
 use std::test::Fail;
-
-/// Three ticks a row.
-const SHORT: Song = Song { tempo: 3, ..SONG };
 
 static SLIDES: [Row; 18] = [
     // Four times 2 less at each later tick.
@@ -113,7 +110,7 @@ static SLIDES: [Row; 18] = [
         name: "tone_portamento",
         song: Song {
             cells: &[(0, 49, 1, 0, 0, 0), (1, 51, 0, 0, 3, 4)],
-            ..SHORT
+            ..THREE_TICKS
         },
         values: &[4608, 4608, 4608, 4608, 4592, 4576, 4576],
         ..ROW
@@ -123,7 +120,7 @@ static SLIDES: [Row; 18] = [
         name: "tone_portamento_stops_at_its_target",
         song: Song {
             cells: &[(0, 49, 1, 0, 0, 0), (1, 51, 0, 0, 3, 24)],
-            ..SHORT
+            ..THREE_TICKS
         },
         values: &[4608, 4608, 4608, 4608, 4512, 4480, 4480],
         ..ROW
@@ -132,7 +129,7 @@ static SLIDES: [Row; 18] = [
         name: "a_target_of_tone_portamento",
         song: Song {
             cells: &[(0, 49, 1, 0, 0, 0), (1, 51, 0, 0, 3, 4)],
-            ..SHORT
+            ..THREE_TICKS
         },
         every: 3,
         what: What::Target,
@@ -144,7 +141,7 @@ static SLIDES: [Row; 18] = [
         name: "two_tone_portamentos_move_twice",
         song: Song {
             cells: &[(0, 49, 1, 0, 0, 0), (1, 53, 0, 0xF1, 3, 0)],
-            ..SHORT
+            ..THREE_TICKS
         },
         values: &[4608, 4608, 4608, 4608, 4480, 4352],
         ..ROW
@@ -154,7 +151,7 @@ static SLIDES: [Row; 18] = [
         name: "tone_portamento_without_a_voice_begins",
         song: Song {
             cells: &[(0, 51, 1, 0, 3, 4)],
-            ..SHORT
+            ..THREE_TICKS
         },
         values: &[4480, 4480],
         ..ROW
@@ -164,7 +161,7 @@ static SLIDES: [Row; 18] = [
         name: "tone_portamento_with_a_slide",
         song: Song {
             cells: &[(0, 49, 1, 0, 3, 4), (1, 51, 0, 0, 5, 2)],
-            ..SHORT
+            ..THREE_TICKS
         },
         values: &[4608, 4608, 4608, 4608, 4592, 4576],
         ..ROW
@@ -174,7 +171,7 @@ static SLIDES: [Row; 18] = [
         name: "tone_portamento_is_told",
         song: Song {
             cells: &[(0, 49, 1, 0, 0, 0), (1, 51, 0, 0, 3, 4)],
-            ..SHORT
+            ..THREE_TICKS
         },
         what: What::Gliding,
         values: &[0, 0, 0, 0, 1, 1, 0],
@@ -185,8 +182,7 @@ static SLIDES: [Row; 18] = [
         name: "glissando",
         song: Song {
             cells: &[(0, 0, 0, 0, 14, 0x32), (1, 0, 0, 0, 14, 0x30)],
-            tempo: 1,
-            ..SONG
+            ..ONE_TICK
         },
         what: What::Glissando,
         values: &[1, 0],
@@ -196,8 +192,6 @@ static SLIDES: [Row; 18] = [
 
 #[test]
 fn periods_move(rt: HostRuntime) -> Result<(), Fail> {
-    for row in SLIDES.iter() {
-        assert_eq!(rt; shows(rt.alloc(), row), Ok(true), "{}", row.name);
-    }
+    assert_eq!(rt; first_wrong(rt.alloc(), &SLIDES)?, None);
     Ok(())
 }

@@ -50,6 +50,15 @@ pub const SONG: Song = Song {
     beside: &[],
 };
 
+/// One tick a row, so that there is no later tick.
+pub const ONE_TICK: Song = Song { tempo: 1, ..SONG };
+
+/// Two ticks a row.
+pub const TWO_TICKS: Song = Song { tempo: 2, ..SONG };
+
+/// Three ticks a row.
+pub const THREE_TICKS: Song = Song { tempo: 3, ..SONG };
+
 /// Puts cells into a channel of two.
 fn put_cells(cells: &mut [Cell], channel: u8, named: &[At]) {
     for (row, note, instrument, volume, effect, parameter) in named.iter() {

@@ -2,15 +2,9 @@
 //!
 //! The sine is 0, 180, 255, 180 and 0 at positions 0, 8, 16, 24 and 32, and then the same below 0.
 
-use crate::playing::{ROW, Row, What, shows};
-use crate::song::{SONG, Song};
+use crate::playing::{ROW, Row, What, first_wrong};
+use crate::song::{ONE_TICK, SONG, Song, THREE_TICKS, TWO_TICKS};
 use std::test::Fail;
-
-/// Three ticks a row.
-const SHORT: Song = Song { tempo: 3, ..SONG };
-
-/// One tick a row.
-const FAST: Song = Song { tempo: 1, ..SONG };
 
 static SWINGS: [Row; 23] = [
     // By 0, 4 and 7 semitones in turn.
@@ -28,7 +22,7 @@ static SWINGS: [Row; 23] = [
         name: "arpeggio_ends_with_its_row",
         song: Song {
             cells: &[(0, 49, 1, 0, 0, 0x47)],
-            ..SHORT
+            ..THREE_TICKS
         },
         what: What::Arpeggio,
         values: &[0, 4, 7, 0, 0],
@@ -88,7 +82,7 @@ static SWINGS: [Row; 23] = [
                 (1, 0, 0, 0, 4, 0x05),
                 (2, 0, 0, 0, 4, 0x30),
             ],
-            ..FAST
+            ..ONE_TICK
         },
         what: What::VibratoSpeed,
         values: &[8, 8, 3],
@@ -103,7 +97,7 @@ static SWINGS: [Row; 23] = [
                 (1, 0, 0, 0, 4, 0x05),
                 (2, 0, 0, 0, 4, 0x30),
             ],
-            ..FAST
+            ..ONE_TICK
         },
         what: What::VibratoDepth,
         values: &[2, 5, 5],
@@ -114,7 +108,7 @@ static SWINGS: [Row; 23] = [
         name: "volume_byte_a",
         song: Song {
             cells: &[(0, 0, 0, 0xA8, 0, 0), (1, 0, 0, 0xA0, 0, 0)],
-            ..FAST
+            ..ONE_TICK
         },
         what: What::VibratoSpeed,
         values: &[8, 8],
@@ -125,7 +119,7 @@ static SWINGS: [Row; 23] = [
         name: "volume_byte_b",
         song: Song {
             cells: &[(0, 0, 0, 0xB8, 0, 0), (1, 0, 0, 0xB0, 0, 0)],
-            ..FAST
+            ..ONE_TICK
         },
         what: What::VibratoDepth,
         values: &[8, 8],
@@ -136,7 +130,7 @@ static SWINGS: [Row; 23] = [
         name: "vibrato_as_a_ramp",
         song: Song {
             cells: &[(0, 49, 1, 0, 14, 0x41), (1, 0, 0, 0, 4, 0x84)],
-            ..SHORT
+            ..THREE_TICKS
         },
         what: What::VibratoOffset,
         values: &[0, 0, 0, 0, 31, 23],
@@ -147,7 +141,7 @@ static SWINGS: [Row; 23] = [
         name: "vibrato_as_a_square",
         song: Song {
             cells: &[(0, 49, 1, 0, 14, 0x43), (1, 0, 0, 0, 4, 0x84)],
-            ..SHORT
+            ..THREE_TICKS
         },
         what: What::VibratoOffset,
         values: &[0, 0, 0, 0, 31, 31],
@@ -158,7 +152,7 @@ static SWINGS: [Row; 23] = [
         name: "a_note_begins_the_vibrato_anew",
         song: Song {
             cells: &[(0, 49, 1, 0, 4, 0x84), (1, 49, 1, 0, 0, 0)],
-            ..SHORT
+            ..THREE_TICKS
         },
         what: What::VibratoPosition,
         values: &[0, 8, 16, 0],
@@ -173,7 +167,7 @@ static SWINGS: [Row; 23] = [
                 (1, 49, 1, 0, 4, 0x84),
                 (2, 49, 1, 0, 0, 0),
             ],
-            ..SHORT
+            ..THREE_TICKS
         },
         what: What::VibratoPosition,
         values: &[0, 0, 0, 0, 8, 16, 16],
@@ -185,7 +179,7 @@ static SWINGS: [Row; 23] = [
         song: Song {
             cells: &[(0, 49, 1, 0, 4, 0x84)],
             beside: &[(0, 0, 0, 0, 14, 0xE1)],
-            ..SHORT
+            ..THREE_TICKS
         },
         what: What::VibratoOffset,
         values: &[0, 0, 22, 0, 31, 22],
@@ -207,7 +201,7 @@ static SWINGS: [Row; 23] = [
         name: "tremolo_as_a_square",
         song: Song {
             cells: &[(0, 49, 1, 0, 14, 0x72), (1, 0, 0, 0, 7, 0x84)],
-            ..SHORT
+            ..THREE_TICKS
         },
         what: What::TremoloOffset,
         values: &[0, 0, 0, 0, 15, 15],
@@ -222,7 +216,7 @@ static SWINGS: [Row; 23] = [
                 (1, 0, 0, 0, 7, 0x05),
                 (2, 0, 0, 0, 7, 0x30),
             ],
-            ..FAST
+            ..ONE_TICK
         },
         what: What::TremoloSpeed,
         values: &[8, 8, 3],
@@ -237,7 +231,7 @@ static SWINGS: [Row; 23] = [
                 (1, 0, 0, 0, 7, 0x05),
                 (2, 0, 0, 0, 7, 0x30),
             ],
-            ..FAST
+            ..ONE_TICK
         },
         what: What::TremoloDepth,
         values: &[2, 5, 5],
@@ -259,8 +253,7 @@ static SWINGS: [Row; 23] = [
         name: "tremor_mutes_at_tick_0_too",
         song: Song {
             cells: &[(0, 49, 1, 0, 29, 0), (1, 0, 0, 0, 29, 0)],
-            tempo: 2,
-            ..SONG
+            ..TWO_TICKS
         },
         what: What::Muted,
         values: &[0, 1, 1, 0],
@@ -271,8 +264,7 @@ static SWINGS: [Row; 23] = [
         name: "a_note_begins_the_tremor_anew",
         song: Song {
             cells: &[(0, 49, 1, 0, 29, 0), (1, 49, 1, 0, 29, 0)],
-            tempo: 2,
-            ..SONG
+            ..TWO_TICKS
         },
         what: What::Muted,
         values: &[0, 1, 0, 1],
@@ -282,8 +274,7 @@ static SWINGS: [Row; 23] = [
         name: "a_row_without_tremor_is_heard",
         song: Song {
             cells: &[(0, 49, 1, 0, 29, 0)],
-            tempo: 2,
-            ..SONG
+            ..TWO_TICKS
         },
         what: What::Muted,
         values: &[0, 1, 0, 0],
@@ -293,8 +284,6 @@ static SWINGS: [Row; 23] = [
 
 #[test]
 fn waves_swing(rt: HostRuntime) -> Result<(), Fail> {
-    for row in SWINGS.iter() {
-        assert_eq!(rt; shows(rt.alloc(), row), Ok(true), "{}", row.name);
-    }
+    assert_eq!(rt; first_wrong(rt.alloc(), &SWINGS)?, None);
     Ok(())
 }
