@@ -265,111 +265,18 @@ named_gives (row ∷ rows) give w reading h = elim (cases_Bool (bytes_eq w row.0
   | inr other ↦ named_gives rows give.1 w reading (sym (cond-false (bytes_eq w row.0) (Some row.1) (named rows w) other) ∙ h)
 ]
 
+infixr 4 ◌&◌
+◌&◌ : {A B : Type 0} → A → B → A × B
+(a & b) = (a, b)
+
 rows_give : RowsGive readings
 unfolding readings
-rows_give = (
-  cell_gives,
-  (
-    rows_gives,
-    (
-      insrow_gives,
-      (
-        delrow_gives,
-        (
-          clear_gives,
-          (
-            transpose_gives,
-            (
-              copy_gives,
-              (
-                order_gives,
-                (
-                  insorder_gives,
-                  (
-                    delorder_gives,
-                    (
-                      restart_gives,
-                      (
-                        tempo_gives,
-                        (
-                          bpm_gives,
-                          (
-                            title_gives,
-                            (
-                              newpat_gives,
-                              (
-                                delpat_gives,
-                                (
-                                  newins_gives,
-                                  (
-                                    clearins_gives,
-                                    (
-                                      insname_gives,
-                                      (
-                                        map_gives,
-                                        (
-                                          env_gives,
-                                          (
-                                            point_gives,
-                                            (
-                                              vib_gives,
-                                              (
-                                                fade_gives,
-                                                (
-                                                  newsmp_gives,
-                                                  (
-                                                    delsmp_gives,
-                                                    (
-                                                      smpname_gives,
-                                                      (
-                                                        smp_gives,
-                                                        (
-                                                          loop_gives,
-                                                          (
-                                                            cut_gives,
-                                                            (
-                                                              paste_gives,
-                                                              (
-                                                                reverse_gives,
-                                                                (
-                                                                  scale_gives,
-                                                                  (
-                                                                    bits_gives,
-                                                                    tt,
-                                                                  ),
-                                                                ),
-                                                              ),
-                                                            ),
-                                                          ),
-                                                        ),
-                                                      ),
-                                                    ),
-                                                  ),
-                                                ),
-                                              ),
-                                            ),
-                                          ),
-                                        ),
-                                      ),
-                                    ),
-                                  ),
-                                ),
-                              ),
-                            ),
-                          ),
-                        ),
-                      ),
-                    ),
-                  ),
-                ),
-              ),
-            ),
-          ),
-        ),
-      ),
-    ),
-  ),
-)
+rows_give =
+    cell_gives & rows_gives & insrow_gives & delrow_gives & clear_gives & transpose_gives & copy_gives & order_gives &
+    insorder_gives & delorder_gives & restart_gives & tempo_gives & bpm_gives & title_gives & newpat_gives &
+    delpat_gives & newins_gives & clearins_gives & insname_gives & map_gives & env_gives & point_gives & vib_gives &
+    fade_gives & newsmp_gives & delsmp_gives & smpname_gives & smp_gives & loop_gives & cut_gives & paste_gives &
+    reverse_gives & scale_gives & bits_gives & tt
 
 edit_gives : Gives Good edit_reading
 unfolding edit_reading
