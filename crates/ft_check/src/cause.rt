@@ -4,7 +4,7 @@ ghost use Rattle.std.specs.Prelude.{◌≡◌, ◌≤◌, ◌<◌, ◌+◌, ◌&
 ghost use Rattle.std.specs.Option.{option_copied};
 ghost use Rattle.ft_types.specs.Valid.{IsValid};
 ghost use Rattle.ft_types.specs.Views.{rows_at, instrument_at, sample_in};
-ghost use Rattle.ft_edits.specs.Faults.{unless, first_of, stored, row_of, channel_of, order_below, within, room_for, instrument_of, samples_at, frames_at, wide_at, sample_of, is_narrow, narrow_frames};
+ghost use Rattle.ft_edits.specs.Faults.{unless, stored, row_of, channel_of, order_below, within, room_for, instrument_of, samples_at, frames_at, wide_at, sample_of, is_narrow, narrow_frames};
 
 use ft_types::{EditFault, Instrument, Module, Sample};
 
@@ -13,18 +13,6 @@ pub(crate) fn unless(test: bool, fault: EditFault) -> Option<EditFault>
     ensures { result ≡ unless test fault }
 {
     if test { None } else { Some(fault) }
-}
-
-/// The first cause, if there is one.
-pub(crate) fn first_of(causes: &[Option<EditFault>]) -> Option<EditFault>
-    ensures { result ≡ first_of causes.now }
-{
-    for cause in causes.iter() {
-        if let Some(fault) = cause {
-            return Some(*fault);
-        }
-    }
-    None
 }
 
 /// The rows of a pattern; 64 where it isn't stored.

@@ -6,8 +6,8 @@ ghost use Rattle.ft_types.specs.Edits.{IsGivable};
 ghost use Rattle.ft_edits.specs.Faults.{unless, first_of, fault_of, block_of, framed, room_for, most_frames, frames_at, wide_at, narrow_frames};
 
 use crate::cause::{
-    channel_of, first_of, frames_at, frames_of, instrument_of, loop_of, narrow_frames, order_below,
-    room_for, row_of, sample_of, samples_at, stored, unless, wide_at, within,
+    channel_of, frames_at, frames_of, instrument_of, loop_of, narrow_frames, order_below, room_for,
+    row_of, sample_of, samples_at, stored, unless, wide_at, within,
 };
 use ft_types::{Edit, EditFault, Frames, Module};
 
@@ -67,15 +67,13 @@ pub(crate) fn fault_of(m: &Module, e: &Edit) -> Option<EditFault>
             vol: _,
             eff: _,
             par: _,
-        } => first_of(&[
-            stored(m, *p),
-            row_of(m, *p, u32::from(*r)),
-            channel_of(m, u16::from(*c)),
-            within(1, 0, 97, u16::from(*note)),
-        ]),
-        Edit::Rows { p, n } => first_of(&[stored(m, *p), within(2, 1, 256, *n)]),
-        Edit::Insrow { p, r } => first_of(&[stored(m, *p), row_of(m, *p, u32::from(*r))]),
-        Edit::Delrow { p, r } => first_of(&[stored(m, *p), row_of(m, *p, u32::from(*r))]),
+        } => stored(m, *p)
+            .or(row_of(m, *p, u32::from(*r)))
+            .or(channel_of(m, u16::from(*c)))
+            .or(within(1, 0, 97, u16::from(*note))),
+        Edit::Rows { p, n } => stored(m, *p).or(within(2, 1, 256, *n)),
+        Edit::Insrow { p, r } => stored(m, *p).or(row_of(m, *p, u32::from(*r))),
+        Edit::Delrow { p, r } => stored(m, *p).or(row_of(m, *p, u32::from(*r))),
         Edit::Clear { p, r, c, h, w } => block_fault(m, *p, *r, *c, *h, *w),
         Edit::Transpose {
             p,
@@ -94,49 +92,42 @@ pub(crate) fn fault_of(m: &Module, e: &Edit) -> Option<EditFault>
             q,
             r2,
             c2,
-        } => first_of(&[
-            stored(m, *p),
-            size_of(*h, *w),
-            row_of(m, *p, last_of(*r, *h)),
-            channel_of(m, last_channel(*c, *w)),
-            stored(m, *q),
-            size_of(*h, *w),
-            row_of(m, *q, last_of(*r2, *h)),
-            channel_of(m, last_channel(*c2, *w)),
-        ]),
+        } => stored(m, *p)
+            .or(size_of(*h, *w))
+            .or(row_of(m, *p, last_of(*r, *h)))
+            .or(channel_of(m, last_channel(*c, *w)))
+            .or(stored(m, *q))
+            .or(size_of(*h, *w))
+            .or(row_of(m, *q, last_of(*r2, *h)))
+            .or(channel_of(m, last_channel(*c2, *w))),
         Edit::Order { pos, p: _ } => order_below(m.orders.len(), *pos),
-        Edit::Insorder { pos, p: _ } => first_of(&[
-            order_below(m.orders.len() + 1, *pos),
-            room_for(1, 256, m.orders.len() as u32 + 1),
-        ]),
-        Edit::Delorder { pos } => first_of(&[
-            order_below(m.orders.len(), *pos),
-            unless(
-                1 < m.orders.len(),
-                EditFault::Range {
-                    field: 17,
-                    found: 0,
-                },
-            ),
-        ]),
+        Edit::Insorder { pos, p: _ } => order_below(m.orders.len() + 1, *pos).or(room_for(
+            1,
+            256,
+            m.orders.len() as u32 + 1,
+        )),
+        Edit::Delorder { pos } => order_below(m.orders.len(), *pos).or(unless(
+            1 < m.orders.len(),
+            EditFault::Range {
+                field: 17,
+                found: 0,
+            },
+        )),
         Edit::Restart { pos } => order_below(m.orders.len(), *pos),
         Edit::Tempo { n } => within(4, 1, 31, u16::from(*n)),
         Edit::Bpm { n } => within(5, 32, 255, u16::from(*n)),
         Edit::Title { name: _ } => None,
-        Edit::Newpat { n } => first_of(&[
-            room_for(2, 256, m.patterns.len() as u32 + 1),
-            within(2, 1, 256, *n),
-        ]),
+        Edit::Newpat { n } => room_for(2, 256, m.patterns.len() as u32 + 1).or(within(
+            2, 1, 256, *n,
+        )),
         Edit::Delpat => unless(0 < m.patterns.len(), EditFault::NoPattern { p: 0 }),
         Edit::Newins => room_for(3, 128, m.instruments.len() as u32 + 1),
         Edit::Clearins { i } => instrument_of(m, *i),
         Edit::Insname { i, name: _ } => instrument_of(m, *i),
-        Edit::Map { i, n, k } => first_of(&[
-            instrument_of(m, *i),
-            sample_of(m, *i, 0),
-            within(7, 0, 95, u16::from(*n)),
-            within(13, 0, 15, u16::from(*k)),
-        ]),
+        Edit::Map { i, n, k } => instrument_of(m, *i)
+            .or(sample_of(m, *i, 0))
+            .or(within(7, 0, 95, u16::from(*n)))
+            .or(within(13, 0, 15, u16::from(*k))),
         Edit::Env {
             i,
             w,
@@ -145,43 +136,38 @@ pub(crate) fn fault_of(m: &Module, e: &Edit) -> Option<EditFault>
             ls,
             le,
             flags,
-        } => first_of(&[
-            instrument_of(m, *i),
-            sample_of(m, *i, 0),
-            within(18, 0, 1, u16::from(*w)),
-            within(6, 0, 12, u16::from(*count)),
-            within(7, 0, 11, u16::from(*sus)),
-            within(7, 0, 11, u16::from(*ls)),
-            within(7, 0, 11, u16::from(*le)),
-            within(8, 0, 7, u16::from(*flags)),
-        ]),
-        Edit::Point { i, w, k, x: _, y } => first_of(&[
-            instrument_of(m, *i),
-            sample_of(m, *i, 0),
-            within(18, 0, 1, u16::from(*w)),
-            within(7, 0, 11, u16::from(*k)),
-            within(9, 0, 64, u16::from(*y)),
-        ]),
+        } => instrument_of(m, *i)
+            .or(sample_of(m, *i, 0))
+            .or(within(18, 0, 1, u16::from(*w)))
+            .or(within(6, 0, 12, u16::from(*count)))
+            .or(within(7, 0, 11, u16::from(*sus)))
+            .or(within(7, 0, 11, u16::from(*ls)))
+            .or(within(7, 0, 11, u16::from(*le)))
+            .or(within(8, 0, 7, u16::from(*flags))),
+        Edit::Point { i, w, k, x: _, y } => instrument_of(m, *i)
+            .or(sample_of(m, *i, 0))
+            .or(within(18, 0, 1, u16::from(*w)))
+            .or(within(7, 0, 11, u16::from(*k)))
+            .or(within(9, 0, 64, u16::from(*y))),
         Edit::Vib {
             i,
             kind,
             sweep: _,
             depth,
             rate,
-        } => first_of(&[
-            instrument_of(m, *i),
-            sample_of(m, *i, 0),
-            within(10, 0, 3, u16::from(*kind)),
-            within(11, 0, 15, u16::from(*depth)),
-            within(12, 0, 63, u16::from(*rate)),
-        ]),
-        Edit::Fade { i, n: _ } => first_of(&[instrument_of(m, *i), sample_of(m, *i, 0)]),
-        Edit::Newsmp { i } => first_of(&[
-            instrument_of(m, *i),
-            room_for(4, 16, samples_at(m, *i) as u32 + 1),
-        ]),
-        Edit::Delsmp { i } => first_of(&[instrument_of(m, *i), sample_of(m, *i, 0)]),
-        Edit::Smpname { i, s, name: _ } => first_of(&[instrument_of(m, *i), sample_of(m, *i, *s)]),
+        } => instrument_of(m, *i)
+            .or(sample_of(m, *i, 0))
+            .or(within(10, 0, 3, u16::from(*kind)))
+            .or(within(11, 0, 15, u16::from(*depth)))
+            .or(within(12, 0, 63, u16::from(*rate))),
+        Edit::Fade { i, n: _ } => instrument_of(m, *i).or(sample_of(m, *i, 0)),
+        Edit::Newsmp { i } => instrument_of(m, *i).or(room_for(
+            4,
+            16,
+            samples_at(m, *i) as u32 + 1,
+        )),
+        Edit::Delsmp { i } => instrument_of(m, *i).or(sample_of(m, *i, 0)),
+        Edit::Smpname { i, s, name: _ } => instrument_of(m, *i).or(sample_of(m, *i, *s)),
         Edit::Smp {
             i,
             s,
@@ -189,31 +175,25 @@ pub(crate) fn fault_of(m: &Module, e: &Edit) -> Option<EditFault>
             fine: _,
             rel: _,
             pan: _,
-        } => first_of(&[
-            instrument_of(m, *i),
-            sample_of(m, *i, *s),
-            within(9, 0, 64, u16::from(*vol)),
-        ]),
+        } => instrument_of(m, *i)
+            .or(sample_of(m, *i, *s))
+            .or(within(9, 0, 64, u16::from(*vol))),
         Edit::Loop {
             i,
             s,
             kind,
             start,
             len,
-        } => first_of(&[
-            instrument_of(m, *i),
-            sample_of(m, *i, *s),
-            within(10, 0, 2, u16::from(*kind)),
-            loop_of(m, *i, *s, *kind, *start, *len),
-        ]),
+        } => instrument_of(m, *i)
+            .or(sample_of(m, *i, *s))
+            .or(within(10, 0, 2, u16::from(*kind)))
+            .or(loop_of(m, *i, *s, *kind, *start, *len)),
         Edit::Cut { i, s, from, to } => frames_fault(m, *i, *s, *from, *to),
-        Edit::Paste { i, s, at, frames } => first_of(&[
-            instrument_of(m, *i),
-            sample_of(m, *i, *s),
-            frames_of(m, *i, *s, *at, *at),
-            room_of(m, *i, *s, frames),
-            fit_of(m, *i, *s, frames),
-        ]),
+        Edit::Paste { i, s, at, frames } => instrument_of(m, *i)
+            .or(sample_of(m, *i, *s))
+            .or(frames_of(m, *i, *s, *at, *at))
+            .or(room_of(m, *i, *s, frames))
+            .or(fit_of(m, *i, *s, frames)),
         Edit::Reverse { i, s, from, to } => frames_fault(m, *i, *s, *from, *to),
         Edit::Scale {
             i,
@@ -222,29 +202,23 @@ pub(crate) fn fault_of(m: &Module, e: &Edit) -> Option<EditFault>
             to,
             n: _,
             d,
-        } => first_of(&[
-            instrument_of(m, *i),
-            sample_of(m, *i, *s),
-            frames_of(m, *i, *s, *from, *to),
-            unless(
+        } => instrument_of(m, *i)
+            .or(sample_of(m, *i, *s))
+            .or(frames_of(m, *i, *s, *from, *to))
+            .or(unless(
                 0 < *d,
                 EditFault::Range {
                     field: 14,
                     found: 0,
                 },
-            ),
-        ]),
-        Edit::Bits { i, s, b } => first_of(&[
-            instrument_of(m, *i),
-            sample_of(m, *i, *s),
-            unless(
-                *b == 8 || *b == 16,
-                EditFault::Range {
-                    field: 15,
-                    found: i64::from(*b),
-                },
-            ),
-        ]),
+            )),
+        Edit::Bits { i, s, b } => instrument_of(m, *i).or(sample_of(m, *i, *s)).or(unless(
+            *b == 8 || *b == 16,
+            EditFault::Range {
+                field: 15,
+                found: i64::from(*b),
+            },
+        )),
     }
 }
 
@@ -252,12 +226,10 @@ pub(crate) fn fault_of(m: &Module, e: &Edit) -> Option<EditFault>
 fn block_fault(m: &Module, p: u8, r: u16, c: u8, h: u16, w: u8) -> Option<EditFault>
     ensures { result ≡ first_of (block_of m.now p r c h w) }
 {
-    first_of(&[
-        stored(m, p),
-        size_of(h, w),
-        row_of(m, p, last_of(r, h)),
-        channel_of(m, last_channel(c, w)),
-    ])
+    stored(m, p)
+        .or(size_of(h, w))
+        .or(row_of(m, p, last_of(r, h)))
+        .or(channel_of(m, last_channel(c, w)))
 }
 
 /// The first fault of some frames, if there is one.
@@ -265,9 +237,7 @@ fn frames_fault(m: &Module, i: u8, s: u8, from: u32, to: u32) -> Option<EditFaul
     requires { IsValid m.now }
     ensures { result ≡ first_of (framed m.now i s from to []) }
 {
-    first_of(&[
-        instrument_of(m, i),
-        sample_of(m, i, s),
-        frames_of(m, i, s, from, to),
-    ])
+    instrument_of(m, i)
+        .or(sample_of(m, i, s))
+        .or(frames_of(m, i, s, from, to))
 }

@@ -25,3 +25,7 @@ pub mod WordsExact
 pub mod LinesExact
 pub mod WholeExact
 pub mod Settled
+pub mod ValuesInRange
+pub mod EditsInRange
+pub mod LedgerLinesInRange
+pub mod LinesGoOn

@@ -35,7 +35,7 @@ line_is : (line w : List ℕ) (ws : List (List ℕ)) → split 32 line ≡ w ∷
 line_is line w ws e = sym (join_with_byte-slice_split 32 line) ∙ ap (join_with_byte 32) e ∙ join_spaced w ws
 
 -- all words were taken
-taken_all : {A : Type 0} (o : Option (A × List (List ℕ))) (x : A) → if_over o ≡ Some x → o ≡ Some (x, [])
+pub taken_all : {A : Type 0} (o : Option (A × List (List ℕ))) (x : A) → if_over o ≡ Some x → o ≡ Some (x, [])
 taken_all None x h = absurd (cc)
 taken_all (Some taken) x h = elim (cases_Bool (length taken.1 == 0)) [
   | inl so ↦

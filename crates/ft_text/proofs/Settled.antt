@@ -267,7 +267,7 @@ settled_fault : {A : Type 0} (k : ℕ) (suf other : List (List ℕ)) (r s : Resu
 settled_fault k suf other (Ok read) s h e = absurd (cc)
 settled_fault k suf other (Err m) s h e = let same : m ≡ k = cc in h same
 
-fault_is : (r : Result (Account × Place) ℕ) (k : ℕ) → value_only r ≡ Err k → r ≡ Err k
+pub fault_is : (r : Result (Account × Place) ℕ) (k : ℕ) → value_only r ≡ Err k → r ≡ Err k
 fault_is (Ok read) k h = absurd (cc)
 fault_is (Err m) k h = let same : m ≡ k = cc in ap Err same
 

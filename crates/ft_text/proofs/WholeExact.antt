@@ -24,7 +24,7 @@ pub record OneLine {A : Type 0} (value : List ℕ → Option A) (left : List (Li
   pub parts : left ≡ line ∷ q.left
   pub says : value line ≡ Some x
 
-pair_ok : {A : Type 0} (x y : A) (p q : Place) → ◌≡◌ {A = Result (A × Place) ℕ} (Ok (x, p)) (Ok (y, q)) → (x ≡ y) × (p ≡ q)
+pub pair_ok : {A : Type 0} (x y : A) (p q : Place) → ◌≡◌ {A = Result (A × Place) ℕ} (Ok (x, p)) (Ok (y, q)) → (x ≡ y) × (p ≡ q)
 pair_ok {A} x y p q h =
     let e : ◌≡◌ {A = A × Place} (x, p) (y, q) = cc in
     (ap (λ r. r.0) e, ap (λ r. r.1) e)
@@ -32,7 +32,7 @@ pair_ok {A} x y p q h =
 not_both : {A : Type 0} {P : Type 0} (n : ℕ) (x : A × Place) → ◌≡◌ {A = Result (A × Place) ℕ} (Err n) (Ok x) → P
 not_both n x h = absurd (cc)
 
-one_exact : {A : Type 0} (value : List ℕ → Option A) (p q : Place) (x : A) → one_line value p ≡ Ok (x, q) → OneLine value p.left x q
+pub one_exact : {A : Type 0} (value : List ℕ → Option A) (p q : Place) (x : A) → one_line value p ≡ Ok (x, q) → OneLine value p.left x q
 unfolding one_line
 one_exact {A} value p q x h = go p.left h where
   line_go : (line : List ℕ) (rest : List (List ℕ)) (o : Option A) → value line ≡ o → line_or_wrong p.at rest o ≡ Ok (x, q)
@@ -107,15 +107,16 @@ many_exact value moved line exact state p q xs h =
     lines_exact value moved line exact p.left state read.0 read.1 refl
     ∙ ap (λ ys. written line moved state ys ++ read.1) same.0 ∙ ap (λ q. written line moved state xs ++ q.left) same.1
 
-written_map : {A : Type 0} (line : A → List ℕ) (state : ℕ) (xs : List A) → written {S = ℕ} (λ s. line) (λ s x. s) state xs ≡ map line xs
+pub written_map : {A : Type 0} (line : A → List ℕ) (state : ℕ) (xs : List A) → written {S = ℕ} (λ s. line) (λ s x. s) state xs ≡ map line xs
 written_map line state [] = refl
 written_map line state (x ∷ xs) = ap (λ t. line x ∷ t) (written_map line state xs)
 
-written_hands : (least : ℕ) (hands : List HandEnd) → written (λ s. hand_line) (λ least end. end.hand + 1) least hands ≡ map hand_line hands
+pub written_hands : (least : ℕ) (hands : List HandEnd) → written (λ s. hand_line) (λ least end.
+    end.hand + 1) least hands ≡ map hand_line hands
 written_hands least [] = refl
 written_hands least (h ∷ hands) = ap (λ t. hand_line h ∷ t) (written_hands (h.hand + 1) hands)
 
-written_ticks : (n : ℕ) (ticks : List TickReport) → written tick_line (λ n x. suc n) n ticks ≡ tick_lines n ticks
+pub written_ticks : (n : ℕ) (ticks : List TickReport) → written tick_line (λ n x. suc n) n ticks ≡ tick_lines n ticks
 written_ticks n [] = refl
 written_ticks n (t ∷ ticks) = ap (λ r. tick_line n t ∷ r) (written_ticks (suc n) ticks)
 
@@ -167,7 +168,7 @@ followed : {A B : Type 0} (r : Result (A × Place) ℕ) (next : A → Reading B)
 followed (Ok read) next y h = record { x = read.0; place = read.1; first = refl; behind = h }
 followed (Err n) next y h = not_both n y h
 
-valued : (r : Result (Account × Place) ℕ) (a : Account) → value_only r ≡ Ok a → (q : Place) × (r ≡ Ok (a, q))
+pub valued : (r : Result (Account × Place) ℕ) (a : Account) → value_only r ≡ Ok a → (q : Place) × (r ≡ Ok (a, q))
 valued (Ok read) a h =
     let same : read.0 ≡ a = cc in
     (read.1, ap (λ x. Ok (x, read.1)) same)
@@ -175,7 +176,7 @@ valued (Err n) a h = absurd (cc)
 
 -- ---- lines with their LFs
 
-join_lines : (lines : List (List ℕ)) → join_with_byte 10 (lines ++ [] ∷ []) ≡ joined lines
+pub join_lines : (lines : List (List ℕ)) → join_with_byte 10 (lines ++ [] ∷ []) ≡ joined lines
 join_lines [] = refl
 join_lines (l ∷ []) = sym (append-nil (l ++ 10 ∷ []))
 join_lines (l ∷ m ∷ lines) = ap (λ t. l ++ (10 ∷ t)) (join_lines (m ∷ lines)) ∙ sym (append_assoc l (10 ∷ []) (joined (m ∷ lines)))
@@ -189,29 +190,29 @@ text_is form a bytes e = sym (join_with_byte-slice_split 10 bytes) ∙ ap (join_
 
 -- ---- from each part to the end
 
-abbrev made_of : Run → List Entry → List Refusal → List TickReport → List HandEnd → Option SavedLine → ℕ → Account
+abbrev pub made_of : Run → List Entry → List Refusal → List TickReport → List HandEnd → Option SavedLine → ℕ → Account
 made_of run es rs ts hs s status =
     record { run = record run { status = status }; entries = es; refusals = rs; ticks = ts; hands = hs; saved = s }
 
-abbrev from_end : ℕ → Run → List Entry → List Refusal → List TickReport → List HandEnd → Option SavedLine → Reading Account
+abbrev pub from_end : ℕ → Run → List Entry → List Refusal → List TickReport → List HandEnd → Option SavedLine → Reading Account
 from_end form run es rs ts hs s = one_line (said (end form (length ts))) >>= (λ status. over (made_of run es rs ts hs s status))
 
-abbrev from_saved : ℕ → Run → List Entry → List Refusal → List TickReport → List HandEnd → Reading Account
+abbrev pub from_saved : ℕ → Run → List Entry → List Refusal → List TickReport → List HandEnd → Reading Account
 from_saved form run es rs ts hs = maybe_line (said (saved form)) >>= from_end form run es rs ts hs
 
-abbrev from_hands : ℕ → Run → List Entry → List Refusal → List TickReport → Reading Account
+abbrev pub from_hands : ℕ → Run → List Entry → List Refusal → List TickReport → Reading Account
 from_hands form run es rs ts = many (λ least. said (hand least)) (λ least end. end.hand + 1) 0 >>= from_saved form run es rs ts
 
-abbrev from_ticks : ℕ → Run → List Entry → List Refusal → Reading Account
+abbrev pub from_ticks : ℕ → Run → List Entry → List Refusal → Reading Account
 from_ticks form run es rs = many (λ n. said (tick n)) (λ n x. suc n) 0 >>= from_hands form run es rs
 
-abbrev from_refusals : ℕ → Run → List Entry → Reading Account
+abbrev pub from_refusals : ℕ → Run → List Entry → Reading Account
 from_refusals form run es = lines_of (said (refusal form)) >>= from_ticks form run es
 
-abbrev from_entries : ℕ → Run → Reading Account
+abbrev pub from_entries : ℕ → Run → Reading Account
 from_entries form run = lines_of (said (entry form)) >>= from_refusals form run
 
-abbrev from_play : ℕ → Reading Account
+abbrev pub from_play : ℕ → Reading Account
 from_play form = one_line (said play) >>= from_entries form
 
 -- the lines of an account from each part on

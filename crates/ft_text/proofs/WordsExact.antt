@@ -132,7 +132,7 @@ play_exact words rest run h =
           (ap (λ r. r.status) last.0),
     )
 
-number_within : (most n : ℕ) (w : List ℕ) → number_of most w ≡ Some n → n ≤ most
+pub number_within : (most n : ℕ) (w : List ℕ) → number_of most w ≡ Some n → n ≤ most
 number_within most n w h = elim (cases_Bool (bytes_eq w (decimal (digits_value 10 w)) && nat_le (digits_value 10 w) most)) [
   | inl so ↦
       let e : Some (digits_value 10 w) ≡ Some n = sym (cond-true _ (Some (digits_value 10 w)) None so) ∙ h in

@@ -1,5 +1,5 @@
 -- What is read as a ledger is one, and what isn't is none.
-use Rattle.std.specs.Prelude.{◌≡◌, ◌≢◌, ℕ, ◌<◌, ◌≤◌, List, ◌++◌, length, All, Ok, Err}
+use Rattle.std.specs.Prelude.{◌≡◌, ◌≢◌, ℕ, ◌+◌, ◌<◌, ◌≤◌, List, ◌++◌, length, All, Ok, Err}
 use Rattle.ft_text.specs.Record.{Account, IsTellable}
 use Rattle.ft_text.specs.Ledger.{joined, ledger_text}
 use Rattle.ft_text.specs.LedgerReading.{ledger_of}
@@ -13,6 +13,12 @@ IsLedgerOf bytes account = (form : ℕ) × (1 ≤ form) × (form ≤ 2) × (byte
 abbrev pub ReadIsWritten : Type 0
 ReadIsWritten = (bytes : List ℕ) (account : Account) → ledger_of bytes ≡ Ok account
     → IsLedgerOf bytes account
+
+-- and it can be told: its numbers are in the ranges of their types, its batches have 1 to 16 edits,
+-- and its hands ascend
+abbrev pub ReadCanBeTold : Type 0
+ReadCanBeTold = (bytes : List ℕ) (account : Account) → ledger_of bytes ≡ Ok account
+    → IsTellable account × HasRanges account
 
 -- lines without their LFs
 abbrev pub AreLines : List (List ℕ) → Type 0
@@ -37,3 +43,19 @@ abbrev pub RefusedIsNone : Type 0
 RefusedIsNone = (bytes : List ℕ) (line : ℕ) → ledger_of bytes ≡ Err line
     → (account : Account) → IsTellable account → HasRanges account
     → (ledger_text 2 account ≢ bytes) × (IsOld account → ledger_text 1 account ≢ bytes)
+
+-- lines, and what follows them, in bytes of which the next line is wrong; and what could follow
+pub record GoesOn (bytes : List ℕ) (line : ℕ) : Type 0 where
+  pub lines : List (List ℕ)
+  pub rest : List ℕ
+  pub other : List ℕ
+  pub account : Account
+  pub count : length lines + 1 ≡ line
+  pub are : AreLines lines
+  pub front : bytes ≡ joined lines ++ rest
+  pub whole : ledger_of (joined lines ++ other) ≡ Ok account
+
+-- no line before it is wrong: from those some ledger does go on
+abbrev pub WrongLineIsFirst : Type 0
+WrongLineIsFirst = (bytes : List ℕ) (line : ℕ) → ledger_of bytes ≡ Err line → line < 4294967295
+    → GoesOn bytes line

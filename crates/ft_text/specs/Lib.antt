@@ -14,3 +14,4 @@ pub mod LedgerReading
 pub mod LedgerAnswers
 pub mod LedgerBack
 pub mod LedgerExact
+pub mod ReadRanges

@@ -1,7 +1,7 @@
 //! Laws of the definitions of ledgers. These functions do nothing; their contracts say what holds.
 
 ghost use Rattle.ft_text.specs.LedgerBack.{LedgersAreReadBack, OldLedgersAreReadBack, LedgersDiffer};
-ghost use Rattle.ft_text.specs.LedgerExact.{ReadIsWritten, WrongLineSettles, NoneGoesOn, RefusedIsNone};
+ghost use Rattle.ft_text.specs.LedgerExact.{ReadIsWritten, ReadCanBeTold, WrongLineSettles, WrongLineIsFirst, NoneGoesOn, RefusedIsNone};
 
 /// The ledger of what can be told tells it, in form 2 and, where it can, in form 1. So different
 /// accounts have different ledgers.
@@ -17,9 +17,15 @@ pub fn what_is_read_is_written()
 {}
 
 /// What is refused as a ledger is none, and no ledger begins with the lines up to the wrong one,
-/// whatever follows them.
+/// whatever follows them; but from the lines before that one some ledger does go on.
 pub fn what_is_refused_is_none()
     ensures settled { WrongLineSettles }
     ensures front { NoneGoesOn }
+    ensures first { WrongLineIsFirst }
     ensures none { RefusedIsNone }
+{}
+
+/// What is read as a ledger can be told, and is in the ranges of its types.
+pub fn what_is_read_can_be_told()
+    ensures { ReadCanBeTold }
 {}

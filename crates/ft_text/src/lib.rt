@@ -37,9 +37,14 @@ mod timed;
 mod words;
 
 pub use fault::LineFault;
-pub use laws::{printed_batches_are_read, printed_edits_are_read, texts_differ};
+pub use laws::{
+    printed_batches_are_read, printed_edits_are_read, texts_differ, what_is_read_is_in_range,
+};
 pub use ledger::print_ledger;
-pub use ledger_laws::{ledgers_are_read_back, what_is_read_is_written, what_is_refused_is_none};
+pub use ledger_laws::{
+    ledgers_are_read_back, what_is_read_can_be_told, what_is_read_is_written,
+    what_is_refused_is_none,
+};
 pub use ledger_read::read_ledger;
 pub use print::{print_batch, print_edit};
 pub use read::{read_batch, read_edit};

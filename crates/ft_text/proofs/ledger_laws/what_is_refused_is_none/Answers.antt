@@ -4,6 +4,7 @@ use Rattle.ft_text.specs.Record.{Account}
 use Rattle.ft_text.specs.LedgerReading.{ledger_of}
 use Rattle.ft_text.proofs.LedgerWhole.{whole_back, in_form_2, in_form_1}
 use Rattle.ft_text.proofs.Settled.{wrong_line_settles}
+use Rattle.ft_text.proofs.LinesGoOn.{lines_go_on}
 use Rattle.ft_text.proofs.ledger_laws.what_is_refused_is_none.Goals as goal
 
 not_read : (text bytes : List ℕ) (line : ℕ) (a : Account) → ledger_of bytes ≡ Err line → ledger_of text ≡ Ok a → text ≢ bytes
@@ -26,3 +27,6 @@ returns-clause-none c bytes line wrong a tellable ranges = (
   not_read _ bytes line a wrong (whole_back 2 a (in_form_2 a tellable ranges) tellable ranges),
   λ old. not_read _ bytes line a wrong (whole_back 1 a (in_form_1 a old tellable ranges) tellable ranges),
 )
+
+pub returns-clause-first : goal.returns-clause-first
+returns-clause-first c = lines_go_on
