@@ -1,4 +1,5 @@
-//! A player on a song that was just placed: the first ticks, their sound and their steps.
+//! A player on a song that was just placed: the first ticks, their sound and their steps, also
+//! where it gives up its pass between them.
 
 ghost use Rattle.std.specs.Prelude.{◌≡◌, ◌≤◌, ◌+◌, ◌<◌, true, All, IfSome};
 ghost use Rattle.ft_types.specs.declared.voice.Voice.{Voice};
@@ -98,14 +99,59 @@ fn plays<L: Ledger>(blank: Blank, shared: &Shared, player: &mut Player, rows: &[
     true
 }
 
+/// A player goes on with its pass, which it had given up to the desk, and which the desk gave back.
+fn settled_between(shared: &Shared, desk: &mut Desk, player: Player) -> Player
+    requires desk { desk.old.writer.register ≡ shared.now }
+    requires same { player.pass.register ≡ shared.now }
+    ensures desk { desk.new.writer.register ≡ shared.now }
+    ensures same { result.pass.register ≡ shared.now }
+{
+    let (idle, pass) = player.part();
+    desk.settle(shared, pass);
+    idle.rejoin(desk.resume(shared))
+}
+
+/// Whether the first ticks are the wanted ones, where the player parts with its pass after each.
+fn plays_parted<L: Ledger>(
+    blank: Blank,
+    shared: &Shared,
+    desk: &mut Desk,
+    player: Player,
+    rows: &[Wanted],
+) -> bool
+    requires blank { (blank.name ≡ L.name) × (blank.parts ≡ L.parts) × (0 < L.parts) }
+    requires desk { desk.old.writer.register ≡ shared.now }
+    requires same { player.pass.register ≡ shared.now }
+    requires channels { shared.now.sizes.channels ≡ 2 }
+{
+    let mut steps = Steps::<L>::open(blank);
+    let mut out = [0; 7502];
+    let mut playing = player;
+    for row in rows {
+        let report = tick(&mut playing, shared, &mut out, &mut steps);
+        if !is_wanted(report, &out, row) {
+            return false;
+        }
+        playing = settled_between(shared, desk, playing);
+    }
+    true
+}
+
+/// Whether a song plays so, and plays the same where its player parts with its pass after each tick.
 fn song_plays(alloc: Global, song: &Module, rate: u32, rows: &[Wanted]) -> bool
     requires low { 8000 ≤ rate }
     requires high { rate ≤ 48000 }
 {
-    match opened(alloc, song, rate) {
-        Some((shared, _, mut player)) => plays::<Brand>(Blank::new(1), &shared, &mut player, rows),
-        None => false,
+    let Some((shared, _, mut whole)) = opened(alloc, song, rate) else {
+        return false;
+    };
+    if !plays::<Brand>(Blank::new(1), &shared, &mut whole, rows) {
+        return false;
     }
+    let Some((shared, mut desk, parted)) = opened(alloc, song, rate) else {
+        return false;
+    };
+    plays_parted::<Brand>(Blank::new(1), &shared, &mut desk, parted, rows)
 }
 
 #[test]
