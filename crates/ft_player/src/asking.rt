@@ -1,17 +1,19 @@
 //! Frames that channels ask for, and the words that they keep of them.
 
-ghost use Rattle.std.specs.Prelude.{◌≡◌, ◌≤◌, ◌<◌, ◌+◌, ℕ, true, None, Some, length, get_or, set, FitsSigned};
+ghost use Rattle.std.specs.Prelude.{◌≡◌, ◌≢◌, ◌≤◌, ◌<◌, ◌+◌, ℕ, true, None, Some, length, get_or, set, FitsSigned};
 ghost use Rattle.ft_types.specs.declared.voice.SampleHead.{SampleHead as Head};
 ghost use Rattle.ft_types.specs.Valid.{width_of};
 ghost use Rattle.ft_types.specs.Views.{frame_of};
 ghost use Rattle.ft_types.specs.Work as work_of;
 ghost use Rattle.ft_shared.specs.Counts.{pin_of};
 ghost use Rattle.ft_image.specs.Read.{body_at};
+ghost use Rattle.ft_image.specs.Values.{frames_word};
 ghost use Rattle.ft_image.specs.Passes.{HasReadOn, AreCounted};
+ghost use Rattle.ft_player.specs.declared.seat.KeptWord.{KeptWord as AWord};
 ghost use Rattle.ft_player.specs.declared.seat.KeptWords.{KeptWords as TheWords};
 ghost use Rattle.ft_player.specs.declared.songs.Songs.{Songs};
 ghost use Rattle.ft_player.specs.Songs.{place_at};
-ghost use Rattle.ft_player.specs.Seats.{head_in, pin_in, words_in, numbers_of, owned_by, reworded, IsWordOf, IsSeatOf, IsSeated};
+ghost use Rattle.ft_player.specs.Seats.{head_in, pin_in, words_in, numbers_of, owned_by, frames_by, reworded, IsWordOf, IsSeatOf, IsSeated};
 ghost use Rattle.ft_player.specs.Behind.{Stands};
 
 use crate::laws::what_stands_stood_before;
@@ -26,9 +28,39 @@ use ft_shared::{ReaderPass, Shared};
 use ft_types::Steps;
 use std::sync::ledger::Ledger;
 
-/// The segment of the body of a frame of a seat's sample: that of a kept word, or what the sample's
-/// words say.
+/// The segment of the body of a frame of a seat's sample, as the sample's words say.
+#[cold]
 #[inline(never)]
+fn far_body<L: Ledger>(
+    shared: &Shared,
+    pass: &mut ReaderPass,
+    seat: &Seat,
+    channel: u8,
+    place: u32,
+    steps: &mut Steps<L>,
+) -> u16
+    requires here { pass.old.register ≡ shared.now }
+    requires pinned { pin_of pass.old.notes channel ≡ pin_in (Some seat.now) }
+    requires inside { place < seat.now.head.frames }
+    ensures body { (songs : Songs) → Stands songs pass.new → IsSeatOf songs seat.now → result
+        ≡ body_at (place_at songs seat.now.version).pool seat.now.root
+        (work_of.body_of (work_of.word_of place)) }
+    ensures on { HasReadOn pass.old pass.new }
+    ensures counted { AreCounted pass.old pass.new steps.old steps.new }
+    ensures work { (steps.old ≤ steps.new) × (steps.new ≤ steps.old + 2) }
+{
+    a_pinned_sample_may_be_shown();
+    let mut words = PinnedWords {
+        shared,
+        pass,
+        channel,
+        steps,
+    };
+    body_of_frame(&mut words, seat.root, place)
+}
+
+/// The same: that of a kept word, or what the sample's words say.
+#[inline]
 fn body_for<L: Ledger>(
     shared: &Shared,
     pass: &mut ReaderPass,
@@ -49,21 +81,14 @@ fn body_for<L: Ledger>(
         → steps.new ≡ steps.old }
     ensures work { (steps.old ≤ steps.new) × (steps.new ≤ steps.old + 2) }
 {
-    a_pinned_sample_may_be_shown();
     if let Some(kept) = seat.words.near(place / 4) {
         return kept.body;
     }
-    let mut words = PinnedWords {
-        shared,
-        pass,
-        channel,
-        steps,
-    };
-    body_of_frame(&mut words, seat.root, place)
+    far_body(shared, pass, seat, channel, place, steps)
 }
 
 /// A word of frames of a seat's sample, from the segment of its body.
-#[inline(never)]
+#[inline]
 fn read_word<L: Ledger>(
     shared: &Shared,
     pass: &mut ReaderPass,
@@ -101,9 +126,10 @@ fn read_word<L: Ledger>(
     }
 }
 
-/// The word of a frame of a seat's sample: a kept one, or one that is read.
+/// The word of a frame of a seat's sample, which isn't the newest one: the older one, or one that is
+/// read.
 #[inline]
-fn word_for<L: Ledger>(
+fn other_word<L: Ledger>(
     shared: &Shared,
     pass: &mut ReaderPass,
     seat: &Seat,
@@ -114,6 +140,8 @@ fn word_for<L: Ledger>(
     requires here { pass.old.register ≡ shared.now }
     requires pinned { pin_of pass.old.notes channel ≡ pin_in (Some seat.now) }
     requires inside { place < seat.now.head.frames }
+    requires other { (word : AWord) → seat.now.words.newest ≡ Some word
+        → word.number ≢ work_of.word_of place }
     ensures number { result.number ≡ work_of.word_of place }
     ensures word { (songs : Songs) → Stands songs pass.new → IsSeatOf songs seat.now
         → IsWordOf songs seat.now result }
@@ -124,11 +152,78 @@ fn word_for<L: Ledger>(
         + work_of.frame_cost (work_of.word_of place) (numbers_of seat.now.words) }
 {
     what_stands_stood_before();
-    if let Some(kept) = seat.words.find(place / 4) {
+    if let Some(kept) = seat.words.older_of(place / 4) {
         return kept;
     }
     let body = body_for(shared, pass, seat, channel, place, steps);
     read_word(shared, pass, seat, channel, body, place, steps)
+}
+
+/// What the word of a frame says, which isn't the newest one: it becomes so.
+#[inline(never)]
+fn bring<L: Ledger>(
+    shared: &Shared,
+    pass: &mut ReaderPass,
+    seat: &mut Seat,
+    channel: u8,
+    place: u32,
+    steps: &mut Steps<L>,
+) -> u64
+    requires here { pass.old.register ≡ shared.now }
+    requires pinned { pin_of pass.old.notes channel ≡ pin_in (Some seat.old) }
+    requires inside { place < seat.old.head.frames }
+    requires other { (word : AWord) → seat.old.words.newest ≡ Some word
+        → word.number ≢ work_of.word_of place }
+    ensures word { (songs : Songs) → Stands songs pass.new → IsSeatOf songs seat.old
+        → result ≡ frames_word (frames_by songs seat.old) (work_of.word_of place) }
+    ensures seated { (songs : Songs) → Stands songs pass.new → IsSeatOf songs seat.old
+        → IsSeatOf songs seat.new }
+    ensures rest { seat.new ≡ record seat.old { words = seat.new.words } }
+    ensures words { numbers_of seat.new.words
+        ≡ work_of.asked (work_of.word_of place) (numbers_of seat.old.words) }
+    ensures on { HasReadOn pass.old pass.new }
+    ensures counted { AreCounted pass.old pass.new steps.old steps.new }
+    ensures work { (steps.old ≤ steps.new) × (steps.new ≤ steps.old + work_of.frame_bound) }
+    ensures cost { steps.new ≤ steps.old
+        + work_of.frame_cost (work_of.word_of place) (numbers_of seat.old.words) }
+{
+    let kept = other_word(shared, pass, seat, channel, place, steps);
+    seat.words.put(kept);
+    kept.value
+}
+
+/// What the word of a frame says, which is the newest one from now on.
+#[inline]
+fn word_for<L: Ledger>(
+    shared: &Shared,
+    pass: &mut ReaderPass,
+    seat: &mut Seat,
+    channel: u8,
+    place: u32,
+    steps: &mut Steps<L>,
+) -> u64
+    requires here { pass.old.register ≡ shared.now }
+    requires pinned { pin_of pass.old.notes channel ≡ pin_in (Some seat.old) }
+    requires inside { place < seat.old.head.frames }
+    ensures word { (songs : Songs) → Stands songs pass.new → IsSeatOf songs seat.old
+        → result ≡ frames_word (frames_by songs seat.old) (work_of.word_of place) }
+    ensures seated { (songs : Songs) → Stands songs pass.new → IsSeatOf songs seat.old
+        → IsSeatOf songs seat.new }
+    ensures rest { seat.new ≡ record seat.old { words = seat.new.words } }
+    ensures words { numbers_of seat.new.words
+        ≡ work_of.asked (work_of.word_of place) (numbers_of seat.old.words) }
+    ensures on { HasReadOn pass.old pass.new }
+    ensures counted { AreCounted pass.old pass.new steps.old steps.new }
+    ensures work { (steps.old ≤ steps.new) × (steps.new ≤ steps.old + work_of.frame_bound) }
+    ensures cost { steps.new ≤ steps.old
+        + work_of.frame_cost (work_of.word_of place) (numbers_of seat.old.words) }
+{
+    if let Some(newest) = &seat.words.newest
+        && newest.number == place / 4
+    {
+        return newest.value;
+    }
+    bring(shared, pass, seat, channel, place, steps)
 }
 
 /// The frame at a place of a seat's sample, whose word is asked for.
@@ -159,9 +254,8 @@ fn ask_seat<L: Ledger>(
         + work_of.frame_cost (work_of.word_of place) (numbers_of seat.old.words) }
 {
     a_shown_sample_is_of_its_version();
-    let kept = word_for(shared, pass, seat, channel, place, steps);
-    seat.words.keep(kept);
-    ranged_frame(seat.head.wide, frame_in(kept.value, place))
+    let word = word_for(shared, pass, seat, channel, place, steps);
+    ranged_frame(seat.head.wide, frame_in(word, place))
 }
 
 /// The frame at a place of the sample of a channel's seat, whose word is asked for.

@@ -149,8 +149,6 @@ pub fn ranged_frame(wide: bool, frame: i16) -> i16
     if wide {
         return frame;
     }
-    if frame >= -128 && frame <= 127 {
-        return frame;
-    }
-    0
+    let low = (frame.cast_unsigned() % 256) as u8;
+    i16::from(low.cast_signed())
 }

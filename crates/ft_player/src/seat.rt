@@ -1,6 +1,6 @@
 //! What a player keeps for a channel that sounds.
 
-ghost use Rattle.std.specs.Prelude.{◌≡◌, ◌⊎◌, [], true, false, MatchOption};
+ghost use Rattle.std.specs.Prelude.{◌≡◌, ◌≢◌, ◌⊎◌, [], true, false, Some, MatchOption};
 ghost use Rattle.ft_types.specs.Work as work_of;
 ghost use Rattle.ft_player.specs.declared.seat.KeptWord.{KeptWord as AWord};
 ghost use Rattle.ft_player.specs.Seats.{numbers_of, IsKept};
@@ -39,18 +39,16 @@ impl KeptWords {
         }
     }
 
-    /// The kept word of a number.
+    /// The kept word of a number that the newest one doesn't have.
     #[inline]
-    pub fn find(&self, number: u32) -> Option<KeptWord>
+    pub fn older_of(&self, number: u32) -> Option<KeptWord>
+        requires { (word : AWord) → self.now.newest ≡ Some word → word.number ≢ number }
         ensures { MatchOption result (work_of.is_kept number (numbers_of self.now) ≡ false)
             (λ word. (work_of.is_kept number (numbers_of self.now) ≡ true)
             × (word.number ≡ number) × IsKept self.now word) }
     {
-        let Some(newest) = self.newest else {
+        if self.newest.is_none() {
             return None;
-        };
-        if newest.number == number {
-            return Some(newest);
         }
         let Some(older) = self.older else {
             return None;
@@ -83,18 +81,14 @@ impl KeptWords {
         None
     }
 
-    /// This word was asked for.
+    /// This word was asked for, which isn't the newest one.
     #[inline]
-    pub fn keep(&mut self, word: KeptWord)
+    pub fn put(&mut self, word: KeptWord)
+        requires { (other : AWord) → self.old.newest ≡ Some other → other.number ≢ word.number }
         ensures numbers { numbers_of self.new ≡ work_of.asked word.number (numbers_of self.old) }
         ensures kept { (other : AWord) → IsKept self.new other
             → (other ≡ word) ⊎ IsKept self.old other }
     {
-        if let Some(newest) = self.newest
-            && newest.number == word.number
-        {
-            return;
-        }
         self.older = self.newest;
         self.newest = Some(word);
     }
