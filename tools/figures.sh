@@ -26,7 +26,7 @@ total=$(count step "$silence" /dev/null ledger --rate=48000 --seconds=1200)
 awk -v t="$total" -v f="$frames" 'BEGIN { printf "  %d instructions, %.2f a frame\n", t, t / f }'
 /usr/bin/time -f '  %M KiB of memory, %e s' "$program" step "$silence" /dev/null ledger --rate=48000 --seconds=1200
 echo "silence of one second:"
-/usr/bin/time -f '  %U s in the program, %S s in the system' "$program" step "$silence" "$work/out.wav" ledger --seconds=1
+/usr/bin/time -f '  %M KiB of memory, %U s in the program, %S s in the system' "$program" step "$silence" "$work/out.wav" ledger --seconds=1
 
 # songs of many voices: python3 and tools/canonical.py make them
 cat >"$work/voices.py" <<'PYTHON'
