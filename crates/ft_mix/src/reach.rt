@@ -73,11 +73,8 @@ fn loudness(raw: i16, wide: bool) -> i32
     ensures low { negsuc 32767 ≤ℤ result }
     ensures high { result ≤ℤ pos 32767 }
 {
-    if wide {
-        i32::from(raw)
-    } else {
-        256 * i32::from(raw)
-    }
+    let scale = if wide { 1 } else { 256 };
+    scale * i32::from(raw)
 }
 
 /// The value of the frame that a channel's voice reaches at `i`; past the end of a sample without

@@ -10,8 +10,9 @@ use crate::line::Line;
 use crate::values::read_values;
 use ft_types::{SampleHead, SongView, Voice};
 
-/// Adds what a voice adds to both sides of the frames of its tick from `first` on. What the lent
-/// lines and values hold afterwards isn't said.
+/// Adds what a voice adds to both sides of the frames of its tick from `first` on. A voice without
+/// gain adds nothing, and nothing is read for it. What the lent lines and values hold afterwards isn't
+/// said.
 pub fn add_voice<V: SongView>(
     view: &mut V,
     voice: Voice,
@@ -51,6 +52,9 @@ pub fn add_voice<V: SongView>(
     ensures cost { V.work view.new ≤ V.work view.old + mixing.block_cost (length left.old) voice }
     ensures same { V.same view.old view.new }
 {
+    if voice.left == 0 && voice.right == 0 {
+        return;
+    }
     read_values(view, voice, first, lines, values);
     add_values(values, voice.left, left);
     add_values(values, voice.right, right);
