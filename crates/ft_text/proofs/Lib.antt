@@ -1,6 +1,7 @@
 mod Worked
 mod Lines
 pub mod Decimals
+pub mod FirstByte
 pub mod FrameWords
 pub mod ReadingLaws
 pub mod WordsBack

@@ -125,6 +125,14 @@ impl<'a> Cursor<'a> {
         }
     }
 
+    /// Whether the next word begins with another byte than this one.
+    fn begins_otherwise(&self, wanted: &[u8]) -> bool
+        ensures { OnTrue result ((at : ℕ) × (word (this_word wanted.now) self.now ≡ Err at)) }
+    {
+        let left = &self.left[spaces_of(self.left)..];
+        !left.is_empty() && !wanted.is_empty() && left[0] != wanted[0]
+    }
+
     /// Whether the next word is this one; it is read then, and else nothing is.
     pub fn skips(&mut self, wanted: &[u8]) -> bool
         ensures yes { OnTrue result
@@ -132,6 +140,9 @@ impl<'a> Cursor<'a> {
         ensures no { OnFalse result ((at : ℕ) × (word (this_word wanted.now) self.old ≡ Err at)) }
         ensures same { OnFalse result (self.new ≡ self.old) }
     {
+        if self.begins_otherwise(wanted) {
+            return false;
+        }
         let mut ahead = Cursor {
             at: self.at,
             left: self.left,

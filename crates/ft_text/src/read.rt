@@ -61,6 +61,7 @@ fn edit_of(alloc: Global, line: &mut Cursor, kind: Kind) -> Result<Edit, LineFau
 }
 
 /// An edit: its name, and then its arguments.
+#[inline(always)]
 #[tactic(auto, unfolding(crate::specs::Edits::edit_reading))]
 fn edit(alloc: Global, line: &mut Cursor) -> Result<Edit, LineFault>
     ensures value { Reads (λ edit. edit) result line.new (edit_reading line.old) }
