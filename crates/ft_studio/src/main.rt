@@ -6,8 +6,8 @@
 
 ghost use Rattle.std.specs.Prelude.{◌≡◌};
 ghost use Rattle.ft_words.specs.Refused.{IsNoCommand, IsRefused};
-ghost use Rattle.ft_run.specs.Commands.{texts};
-ghost use Rattle.ft_run.specs.Statuses.{RefusesWords};
+ghost use Rattle.ft_run.specs.Commands.{texts, AskForStep, AskForCopy, AskForGen};
+ghost use Rattle.ft_run.specs.Statuses.{IsOfStep, IsOfCopy, IsOfGen, RefusesWords};
 
 mod outside;
 mod status;
@@ -24,6 +24,10 @@ use words::words_of;
 fn run_words(rt: HostRuntime, words: &[String]) -> Status
     ensures no_command { IsNoCommand (texts words.now) → result ≡ Status.Usage }
     ensures refused { IsRefused (texts words.now) → RefusesWords result }
+    ensures usage { result ≡ Status.Usage → IsRefused (texts words.now) }
+    ensures of_step { AskForStep (texts words.now) → IsOfStep result }
+    ensures of_copy { AskForCopy (texts words.now) → IsOfCopy result }
+    ensures of_gen { AskForGen (texts words.now) → IsOfGen result }
 {
     let files = match names(rt.alloc(), words) {
         Ok(files) => files,

@@ -1,13 +1,15 @@
 //! The files of a command line.
 
-ghost use Rattle.std.specs.Prelude.{◌≡◌, None, IfOk, string_bytes};
+ghost use Rattle.std.specs.Prelude.{◌≡◌, ◌≢◌, ◌<◌, ◌↔◌, None, IfOk, string_bytes};
+ghost use Rattle.ft_outer.specs.Files.{file_given};
 ghost use Rattle.ft_words.specs.Refused.{IsNoCommand, IsRefused};
-ghost use Rattle.ft_run.specs.Commands.{texts, AskForGen};
-ghost use Rattle.ft_run.specs.Statuses.{IsBeforePlay, RefusesWords};
+ghost use Rattle.ft_run.specs.declared.song.TheConstants.{MOST_BYTES};
+ghost use Rattle.ft_run.specs.Commands.{texts, AskForStep, AskForCopy, AskForGen};
+ghost use Rattle.ft_run.specs.Statuses.{IsBeforePlay, IsCounted, IsOfStep, IsOfCopy, IsOfGen, RefusesWords};
 ghost use Rattle.ft_studio.specs.Outside.{first_name, closed_source, closed_sink, closed_sink_of};
 
 use ft_outer::{FileSink, FileSource, OutSink, SureSource};
-use ft_run::{Status, run_plain};
+use ft_run::{SongFault, Status, run_plain};
 use ft_words::{FileNames, Texts};
 use std::alloc::{AllocError, Global};
 use std::io;
@@ -44,10 +46,26 @@ impl Outside {
         requires { self.old.song.file ≡ None }
         ensures no_command { IsNoCommand (texts words.now) → result ≡ Status.Usage }
         ensures refused { IsRefused (texts words.now) → RefusesWords result }
+        ensures usage { result ≡ Status.Usage → IsRefused (texts words.now) }
+        ensures of_step { AskForStep (texts words.now) → IsOfStep result }
+        ensures of_copy { AskForCopy (texts words.now) → IsOfCopy result }
+        ensures of_gen { AskForGen (texts words.now) → IsOfGen result }
+
+        // A fault of the song or of what is written is told where it was counted, and no other.
+        ensures song_count { IsCounted Status.SongRead result
+            self.old.song.faults self.new.song.faults }
+        ensures wav_count { IsCounted Status.WavWrite result
+            self.old.wav.faults self.new.wav.faults }
+        ensures too_big { (result ≡ Status.Song SongFault.TooBig)
+            ↔ (MOST_BYTES < file_given self.new.song.file) }
+
+        ensures words_first { IsRefused (texts words.now) → self.new.song ≡ self.old.song }
         ensures unread { AskForGen (texts words.now) → self.new.song ≡ self.old.song }
         ensures unwritten { IsBeforePlay result → (AskForGen (texts words.now) → ⊥)
             → self.new.wav ≡ self.old.wav }
         ensures ledger { (AskForGen (texts words.now) → ⊥) → self.new.ledger ≡ self.old.ledger }
+        ensures ledger_last { (result ≢ Status.Done) → (result ≢ Status.LedgerWrite)
+            → self.new.ledger ≡ self.old.ledger }
     {
         let (song, wav) = (&mut self.song, &mut self.wav);
         match &mut self.ledger {
@@ -64,6 +82,10 @@ impl Outside {
 pub fn run_nothing(alloc: Global, words: &[String]) -> Status
     ensures no_command { IsNoCommand (texts words.now) → result ≡ Status.Usage }
     ensures refused { IsRefused (texts words.now) → RefusesWords result }
+    ensures usage { result ≡ Status.Usage → IsRefused (texts words.now) }
+    ensures of_step { AskForStep (texts words.now) → IsOfStep result }
+    ensures of_copy { AskForCopy (texts words.now) → IsOfCopy result }
+    ensures of_gen { AskForGen (texts words.now) → IsOfGen result }
 {
     let mut song = SureSource::new(Vec::new(alloc), 1);
     let mut wav = OutSink::new(io::sink());
