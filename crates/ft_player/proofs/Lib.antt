@@ -9,3 +9,4 @@ mod Closing
 mod Opened
 mod Ordered
 mod Renewing
+mod ReadOn

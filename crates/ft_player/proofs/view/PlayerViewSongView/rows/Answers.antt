@@ -1,23 +1,14 @@
-use Rattle.std.proofs.Common.{refl, ap, ◌∙◌}
-use Rattle.ft_shared.specs.Pass.{ReaderState}
-use Rattle.ft_player.specs.BehindLaws.{played_read}
+use Rattle.std.proofs.Common.{refl}
+use Rattle.ft_player.proofs.ReadOn.{stood, kept_on}
 use Rattle.ft_player.proofs.view.PlayerViewSongView.rows.Goals as goal
 
 pub invariant_of-self : goal.invariant_of-self
 invariant_of-self g c =
     let old = c.args.self.now in
-    let is = c.held_rows.ensures.on.is in
-    let on = played_read old.pass.now c.held_rows.new.pass c.held_rows.ensures.on in record {
-      here = ap (λ (x : ReaderState). x.register) is ∙ old.here;
-      held = ap (λ (x : ReaderState). x.notes.held) is ∙ old.held;
-      many = old.many;
-      pins = ap (λ (x : ReaderState). x.notes.pins) is ∙ old.pins;
-      seated = λ songs channel stands.
-          old.seated songs channel (c.what_stands_stood_before.ensures songs _ _ on stands);
-    }
+    kept_on c.what_stands_stood_before.ensures old.shared.now old.seats.now.items old.version old.root old.pass.now
+    c.held_rows.new.pass c.held_rows.ensures.on
+    (record { here = old.here; held = old.held; many = old.many; pins = old.pins; seated = old.seated })
 
 pub returns-clause-shows : goal.returns-clause-shows
 returns-clause-shows g c = λ w stands.
-    let old = c.args.self.now.pass.now in
-    let on = played_read old c.held_rows.new.pass c.held_rows.ensures.on in
-    (c.what_stands_stood_before.ensures w old c.held_rows.new.pass on stands, refl)
+    (stood c.what_stands_stood_before.ensures c.args.self.now.pass.now c.held_rows.new.pass c.held_rows.ensures.on w stands, refl)
