@@ -1,6 +1,7 @@
 mod Beginning
 mod Held
 mod Played
+mod BegunRead
 mod Ranged
 mod Refills
 mod Seated

@@ -5,3 +5,4 @@ pub mod BehindLaws
 pub mod Bounds
 pub mod Player
 pub mod Inner
+pub mod Asked

@@ -15,6 +15,7 @@ ghost use Rattle.ft_player.specs.declared.songs.Songs.{Songs};
 ghost use Rattle.ft_player.specs.Songs.{place_at};
 ghost use Rattle.ft_player.specs.Seats.{head_in, pin_in, words_in, numbers_of, owned_by, frames_by, reworded, IsWordOf, IsSeatOf, IsSeated};
 ghost use Rattle.ft_player.specs.Behind.{Stands};
+ghost use Rattle.ft_player.specs.Asked.{HasAsked};
 
 use crate::laws::what_stands_stood_before;
 use crate::ranges::ranged_frame;
@@ -176,16 +177,7 @@ fn bring<L: Ledger>(
         → word.number ≢ work_of.word_of place }
     ensures word { (songs : Songs) → Stands songs pass.new → IsSeatOf songs seat.old
         → result ≡ frames_word (frames_by songs seat.old) (work_of.word_of place) }
-    ensures seated { (songs : Songs) → Stands songs pass.new → IsSeatOf songs seat.old
-        → IsSeatOf songs seat.new }
-    ensures rest { seat.new ≡ record seat.old { words = seat.new.words } }
-    ensures words { numbers_of seat.new.words
-        ≡ work_of.asked (work_of.word_of place) (numbers_of seat.old.words) }
-    ensures on { HasReadOn pass.old pass.new }
-    ensures counted { AreCounted pass.old pass.new steps.old steps.new }
-    ensures work { (steps.old ≤ steps.new) × (steps.new ≤ steps.old + work_of.frame_bound) }
-    ensures cost { steps.new ≤ steps.old
-        + work_of.frame_cost (work_of.word_of place) (numbers_of seat.old.words) }
+    ensures asked { HasAsked place pass.old pass.new seat.old seat.new steps.old steps.new }
 {
     let kept = other_word(shared, pass, seat, channel, place, steps);
     seat.words.put(kept);
@@ -207,16 +199,7 @@ fn word_for<L: Ledger>(
     requires inside { place < seat.old.head.frames }
     ensures word { (songs : Songs) → Stands songs pass.new → IsSeatOf songs seat.old
         → result ≡ frames_word (frames_by songs seat.old) (work_of.word_of place) }
-    ensures seated { (songs : Songs) → Stands songs pass.new → IsSeatOf songs seat.old
-        → IsSeatOf songs seat.new }
-    ensures rest { seat.new ≡ record seat.old { words = seat.new.words } }
-    ensures words { numbers_of seat.new.words
-        ≡ work_of.asked (work_of.word_of place) (numbers_of seat.old.words) }
-    ensures on { HasReadOn pass.old pass.new }
-    ensures counted { AreCounted pass.old pass.new steps.old steps.new }
-    ensures work { (steps.old ≤ steps.new) × (steps.new ≤ steps.old + work_of.frame_bound) }
-    ensures cost { steps.new ≤ steps.old
-        + work_of.frame_cost (work_of.word_of place) (numbers_of seat.old.words) }
+    ensures asked { HasAsked place pass.old pass.new seat.old seat.new steps.old steps.new }
 {
     if let Some(newest) = &seat.words.newest
         && newest.number == place / 4
@@ -242,16 +225,7 @@ fn ask_seat<L: Ledger>(
     ensures value { (songs : Songs) → Stands songs pass.new → IsSeatOf songs seat.old
         → result ≡ frame_of (owned_by songs (Some seat.old)) place }
     ensures range { FitsSigned (width_of seat.old.head.wide) result }
-    ensures seated { (songs : Songs) → Stands songs pass.new → IsSeatOf songs seat.old
-        → IsSeatOf songs seat.new }
-    ensures rest { seat.new ≡ record seat.old { words = seat.new.words } }
-    ensures words { numbers_of seat.new.words
-        ≡ work_of.asked (work_of.word_of place) (numbers_of seat.old.words) }
-    ensures on { HasReadOn pass.old pass.new }
-    ensures counted { AreCounted pass.old pass.new steps.old steps.new }
-    ensures work { (steps.old ≤ steps.new) × (steps.new ≤ steps.old + work_of.frame_bound) }
-    ensures cost { steps.new ≤ steps.old
-        + work_of.frame_cost (work_of.word_of place) (numbers_of seat.old.words) }
+    ensures asked { HasAsked place pass.old pass.new seat.old seat.new steps.old steps.new }
 {
     a_shown_sample_is_of_its_version();
     let word = word_for(shared, pass, seat, channel, place, steps);

@@ -24,7 +24,8 @@ there P (Some placed) some = refl
 held_only : (songs : Songs) (pass : ReaderState) (held : TakenVersion) (version : ℕ) → Stands songs pass → IsOnly songs version
     → pass.notes.held ≡ Some held → held.version ≡ version
 held_only songs pass held version stands only holds =
-    only held.version (there (λ placed. placed.root ≡ held.root) (placed_at (history_of songs) held.version) (stands.agrees.held held holds))
+    only held.version (there (λ placed. placed.root ≡ held.root) (placed_at (history_of songs) held.version)
+    (stands.agrees.held held holds))
 
 -- a tick of a player is that of the only version
 pub record IsOfOnly (songs : Songs) (version rate : ℕ) (old new : PlayerState) (report : TickReport) (out : List ℤ) : Type 0 where

@@ -7,10 +7,10 @@ use Rattle.ft_player.proofs.asking.ask_one.Goals as goal
 pub returns-clause-seated : goal.returns-clause-seated
 returns-clause-seated g c = λ songs stands here seat e.
     subst (IsSeatOf songs) (same_Some c.ask_seat.new.seat seat e)
-    (c.ask_seat.ensures.seated songs stands (here c.in-Some.found c.in-Some.is))
+    (c.ask_seat.ensures.asked.seated songs stands (here c.in-Some.found c.in-Some.is))
 
 pub returns-clause-rest : goal.returns-clause-rest
 returns-clause-rest g c = (
   c.ask_seat.new.seat.words,
-  ap (λ (seat : Seat). Some seat) c.ask_seat.ensures.rest ∙ sym (ap (reworded c.ask_seat.new.seat.words) c.in-Some.is),
+  ap (λ (seat : Seat). Some seat) c.ask_seat.ensures.asked.rest ∙ sym (ap (reworded c.ask_seat.new.seat.words) c.in-Some.is),
 )

@@ -1,4 +1,4 @@
-use Rattle.std.proofs.Common.{◌<◌, ℕ, ℤ, pos, Option, length, get_or, ◌/◌, ap, sym, subst, ◌∙◌, rules, w16}
+use Rattle.std.proofs.Common.{◌<◌, ℤ, pos, Option, length, get_or, ◌/◌, ap, sym, subst, ◌∙◌, rules, w16}
 use Rattle.std.proofs.lemmas.Int.{to_z-of_z}
 use Rattle.std.specs.Prelude.{FitsSigned}
 use Rattle.ft_types.specs.declared.voice.SampleHead.{SampleHead}
@@ -25,7 +25,7 @@ returns-clause-value g c = λ songs stands seated.
     let frame = c.frame_in.ensures x valid value in
     let inside : place < length x.frames
     = subst (λ (h : SampleHead). place < h.frames) (sym s.headed) c.requires.inside in
-    let headed = s.headed ∙ sym (ap (λ (s : Seat). s.head) c.word_for-word.ensures.rest) in
+    let headed = s.headed ∙ sym (ap (λ (s : Seat). s.head) c.word_for-word.ensures.asked.rest) in
     let fits = subst (λ (h : SampleHead). FitsSigned (width_of h.wide) (get_or x.frames place (pos 0))) headed
     (frame_ranged x place valid inside) in
     let low : FitsSigned w16 c.frame_in.result = search rules in

@@ -2,14 +2,13 @@ use Rattle.std.proofs.Common.{rules, ◌≡◌, is_some, sym, ap, subst, ◌∙�
 use Rattle.std.proofs.lemmas.Option.{same_Some}
 use Rattle.ft_types.specs.Valid.{IsValidHead}
 use Rattle.ft_shared.specs.Pass.{RegisterId, ReaderState}
-use Rattle.ft_image.specs.Passes.{MayShowHeld}
-use Rattle.ft_image.specs.Read.{MayShowAll}
 use Rattle.ft_image.specs.PassLaws.{reads_through}
 use Rattle.ft_player.specs.Songs.{song_at, place_at}
 use Rattle.ft_player.specs.Seats.{IsSeatOf}
 use Rattle.ft_player.specs.Behind.{Stands}
 use Rattle.ft_player.proofs.Held.{held_song}
-use Rattle.ft_player.proofs.Beginning.{read_of, begins_none, begins_unsound, new_seat}
+use Rattle.ft_player.proofs.Beginning.{begins_none, begins_unsound, new_seat}
+use Rattle.ft_player.proofs.BegunRead.{begun_read}
 use Rattle.ft_player.proofs.sounding.begun_seat.Goals as goal
 
 pub returns-in_default-clause-begins : goal.returns-in_default-clause-begins
@@ -29,15 +28,12 @@ returns-then-found-segments-clause-begins g c = λ songs stands.
     let mid = c.sample_root.new.view.pass.now in
     let new = c.sample_head-head.new.view.pass.now in
     let now : Stands songs new = search (rules, stands) in
+    let b = begun_read songs a.pass.now mid new a.version a.root a.instrument a.note c.in-Some.found c.sample_head-head.result
+    c.sample_root.result c.sample_root.ensures.same.3 c.sample_head-head.ensures.same.3 c.requires.held now c.in-Some.is
+    c.sample_root.ensures.answer c.sample_root.ensures.missing c.sample_head-head.ensures.narrows c.sample_head-head.ensures.answer in
+    let inside = b.song.among c.in-Some.found
+    (c.a_shown_sample_is_of_its_version.ensures.segment place song c.in-Some.found b.read.sample b.song.shows b.read.of) in
     let on = reads_through a.pass.now mid new c.sample_root.ensures.same.3 c.sample_head-head.ensures.same.3 in
-    let h = held_song songs a.pass.now new a.version a.root on c.requires.held now in
-    let before : MayShowAll MayShowHeld mid place = λ s of. c.sample_head-head.ensures.narrows place s (h.may s of) in
-    let r = read_of songs a.version a.instrument a.note c.in-Some.found c.sample_head-head.result c.sample_root.result c.in-Some.is
-    (c.sample_root.ensures.answer place song before h.shows h.rooted)
-    (c.sample_root.ensures.missing place song before h.shows h.rooted)
-    (λ x of. c.sample_head-head.ensures.answer place song x (λ s is used. h.may s is) h.shows of) in
-    let inside = h.among c.in-Some.found
-    (c.a_shown_sample_is_of_its_version.ensures.segment place song c.in-Some.found r.sample h.shows r.of) in
     let same : new.register.sizes.segments ≡ a.shared.now.sizes.segments
     = ap (λ (x : ReaderState). x.register.sizes.segments) on.is
     ∙ ap (λ (x : RegisterId). x.sizes.segments) c.requires.here in
@@ -53,33 +49,23 @@ returns-then-not-can_sound-clause-begins g c = λ songs stands.
     let mid = c.sample_root.new.view.pass.now in
     let new = c.sample_head-head.new.view.pass.now in
     let now : Stands songs new = search (rules, stands) in
-    let on = reads_through a.pass.now mid new c.sample_root.ensures.same.3 c.sample_head-head.ensures.same.3 in
-    let h = held_song songs a.pass.now new a.version a.root on c.requires.held now in
-    let before : MayShowAll MayShowHeld mid place = λ s of. c.sample_head-head.ensures.narrows place s (h.may s of) in
-    let r = read_of songs a.version a.instrument a.note c.in-Some.found c.sample_head-head.result c.sample_root.result c.in-Some.is
-    (c.sample_root.ensures.answer place song before h.shows h.rooted)
-    (c.sample_root.ensures.missing place song before h.shows h.rooted)
-    (λ x of. c.sample_head-head.ensures.answer place song x (λ s is used. h.may s is) h.shows of) in
-    begins_unsound songs a.version a.instrument a.note c.in-Some.found c.sample_head-head.result r
-    (λ x of. c.a_shown_sample_is_of_its_version.ensures.valid place song c.in-Some.found x h.shows of)
+    let b = begun_read songs a.pass.now mid new a.version a.root a.instrument a.note c.in-Some.found c.sample_head-head.result
+    c.sample_root.result c.sample_root.ensures.same.3 c.sample_head-head.ensures.same.3 c.requires.held now c.in-Some.is
+    c.sample_root.ensures.answer c.sample_root.ensures.missing c.sample_head-head.ensures.narrows c.sample_head-head.ensures.answer in
+    begins_unsound songs a.version a.instrument a.note c.in-Some.found c.sample_head-head.result b.read
+    (λ x of. c.a_shown_sample_is_of_its_version.ensures.valid place song c.in-Some.found x b.song.shows of)
     (λ (valid : IsValidHead c.sample_head-head.result).
     let sounds = c.can_sound.ensures.1 valid in search (rules, sounds))
 
 pub returns-clause-seated : goal.returns-clause-seated
 returns-clause-seated g c = λ songs seat stands e.
     let a = c.args in
-    let place = place_at songs a.version in
-    let song = song_at songs a.version in
     let mid = c.sample_root.new.view.pass.now in
     let new = c.sample_head-head.new.view.pass.now in
     let now : Stands songs new = search (rules, stands) in
-    let on = reads_through a.pass.now mid new c.sample_root.ensures.same.3 c.sample_head-head.ensures.same.3 in
-    let h = held_song songs a.pass.now new a.version a.root on c.requires.held now in
-    let before : MayShowAll MayShowHeld mid place = λ s of. c.sample_head-head.ensures.narrows place s (h.may s of) in
-    let r = read_of songs a.version a.instrument a.note c.in-Some.found c.sample_head-head.result c.sample_root.result c.in-Some.is
-    (c.sample_root.ensures.answer place song before h.shows h.rooted)
-    (c.sample_root.ensures.missing place song before h.shows h.rooted)
-    (λ x of. c.sample_head-head.ensures.answer place song x (λ s is used. h.may s is) h.shows of) in
+    let b = begun_read songs a.pass.now mid new a.version a.root a.instrument a.note c.in-Some.found c.sample_head-head.result
+    c.sample_root.result c.sample_root.ensures.same.3 c.sample_head-head.ensures.same.3 c.requires.held now c.in-Some.is
+    c.sample_root.ensures.answer c.sample_root.ensures.missing c.sample_head-head.ensures.narrows c.sample_head-head.ensures.answer in
     let valid : IsValidHead c.sample_head-head.result = search rules in
     subst (IsSeatOf songs) (same_Some _ seat e)
     (new_seat songs (record {
@@ -89,4 +75,4 @@ returns-clause-seated g c = λ songs seat stands e.
       note = a.note;
       head = c.sample_head-head.result;
       words = c.none.result;
-    }) r valid c.none.ensures.kept)
+    }) b.read valid c.none.ensures.kept)

@@ -14,7 +14,8 @@ returns-clause-ticks g c =
     let P : ℕ → Module → ℕ → SequentialState → Type 0 = λ version song rate state.
     (c.measure_ticks-measure.result.ticks ≡ ticks_within c.args.frames version song rate c.args.frames state)
     × (c.measure_ticks-measure.result.peak ≡ peak_of (sound_from version song c.args.frames rate state)) in
-    let all = of_stage P c.args.song.now c.args.stage c.requires.set c.open-player.result c.measure_ticks-measure.new.player c.close-pass.result
+    let all = of_stage P c.args.song.now c.args.stage c.requires.set c.open-player.result c.measure_ticks-measure.new.player
+    c.close-pass.result
     c.settle.new.self c.args.rate c.history_law.ensures
     (c.measure_ticks-measure.ensures.register ∙ ap (λ (r : ReaderState). r.register) (c.open-player.ensures.pass ∙ c.requires.set.pass))
     c.close-pass.ensures.closed (ap (λ (d : DeskState). d.writer.account.history) c.settle.ensures.settled)
@@ -28,7 +29,8 @@ returns-clause-peak g c =
     let P : ℕ → Module → ℕ → SequentialState → Type 0 = λ version song rate state.
     (c.measure_ticks-measure.result.ticks ≡ ticks_within c.args.frames version song rate c.args.frames state)
     × (c.measure_ticks-measure.result.peak ≡ peak_of (sound_from version song c.args.frames rate state)) in
-    let all = of_stage P c.args.song.now c.args.stage c.requires.set c.open-player.result c.measure_ticks-measure.new.player c.close-pass.result
+    let all = of_stage P c.args.song.now c.args.stage c.requires.set c.open-player.result c.measure_ticks-measure.new.player
+    c.close-pass.result
     c.settle.new.self c.args.rate c.history_law.ensures
     (c.measure_ticks-measure.ensures.register ∙ ap (λ (r : ReaderState). r.register) (c.open-player.ensures.pass ∙ c.requires.set.pass))
     c.close-pass.ensures.closed (ap (λ (d : DeskState). d.writer.account.history) c.settle.ensures.settled)

@@ -44,7 +44,8 @@ loop-left-preserved g c =
             λ version only.
                 let song : Module = song_at songs version in
                 let state : SequentialState = stood_by songs l.player in
-                let t = only_tick songs version first.rate l.player c.tick-tick.new.self c.tick-tick.result c.tick-tick.new.out a.1 stands only
+                let t = only_tick songs version first.rate l.player c.tick-tick.new.self c.tick-tick.result
+                c.tick-tick.new.out a.1 stands only
                 c.tick-tick.ensures.looked l.invariant.rate c.tick-tick.ensures.few_frames (omega (arith, c.tick-tick.ensures.many)) in
                 let piece = piece_of c.tick-tick.new.out (seq_tick version song first.rate state).sound n c.min-count.result t.sound
                 (omega (arith, least)) in

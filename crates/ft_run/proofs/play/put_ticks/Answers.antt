@@ -43,7 +43,8 @@ loop-left-preserved g c =
             λ version only.
                 let song : Module = song_at songs version in
                 let state : SequentialState = stood_by songs l.player in
-                let t = only_tick songs version first.rate l.player c.tick-tick.new.self c.tick-tick.result c.tick-tick.new.out a.1 stands only
+                let t = only_tick songs version first.rate l.player c.tick-tick.new.self c.tick-tick.result
+                c.tick-tick.new.out a.1 stands only
                 c.tick-tick.ensures.looked l.invariant.rate c.tick-tick.ensures.few_frames (omega (arith, c.tick-tick.ensures.many)) in
                 let piece = piece_of c.tick-tick.new.out (seq_tick version song first.rate state).sound n c.min-count.result t.sound
                 (omega (arith, c.min-count.ensures)) in
@@ -73,14 +74,16 @@ returns-in_err-put_frames_through-clause-front g c =
       λ version only.
           let song : Module = song_at songs version in
           let state : SequentialState = stood_by songs l.player in
-          let t = only_tick songs version first.rate l.player c.tick-tick.new.self c.tick-tick.result c.tick-tick.new.out a.1 stands only
+          let t = only_tick songs version first.rate l.player c.tick-tick.new.self c.tick-tick.result
+          c.tick-tick.new.out a.1 stands only
           c.tick-tick.ensures.looked l.invariant.rate c.tick-tick.ensures.few_frames (omega (arith, c.tick-tick.ensures.many)) in
           let piece = piece_of c.tick-tick.new.out (seq_tick version song first.rate state).sound n c.min-count.result t.sound
           (omega (arith, c.min-count.ensures)) in
           let part = subst (λ (numbers : List ℤ).
           TakesFront (g.W.Sink.held l.wav) (g.W.Sink.held c.put_frames_through.new.sink) (sound_bytes numbers)) piece
           c.in_err-put_frames_through.ensures.front in
-          cut c.replay_law.ensures.ticks c.replay_law.ensures.state version song first.rate (stood_by songs first) c.taking_law.ensures.front
+          cut c.replay_law.ensures.ticks c.replay_law.ensures.state version song first.rate (stood_by songs first)
+          c.taking_law.ensures.front
           c.args.frames l.left n c.min-count.result _ _ _ state (b.1 version only) (omega arith) t.long c.min-count.ensures part,
     ))
 

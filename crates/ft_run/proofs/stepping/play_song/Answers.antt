@@ -17,7 +17,8 @@ returns-in-Err-PoolSmall-clause-pool g c =
     let p = c.in-Err-PoolSmall in
     let segments : ℕ = c.args.step.segments in
     let held : Option (List ℕ) = g.S.Source.left c.args.song.now in
-    let is = is_small segments (blocks_of c.in-Ok.module) p.need p.segments p.field-0 p.field-0-is p.ensures.small p.ensures.memory in
+    let is = is_small segments (blocks_of c.in-Ok.module) p.need p.segments p.field-0 p.field-0-is
+    p.ensures.small p.ensures.memory in
     small_told held segments c.in-Ok.module c.in-Ok.ensures.only p.need p.segments _ _ c.in-Ok.ensures.valid c.in-Ok.ensures.told
     is.0 is.1 is.2 p.need-is p.segments-is
 
@@ -27,7 +28,8 @@ returns-in-Err-PoolSmall-clause-complete g c = λ can sure written.
     let held = can.1 in
     let same = ap blocks_of (c.in-Ok.ensures.only held.0 can.0 held.1 held.2) in
     let few = can.2 in
-    let is = is_small c.args.step.segments (blocks_of c.in-Ok.module) p.need p.segments p.field-0 p.field-0-is p.ensures.small p.ensures.memory in
+    let is = is_small c.args.step.segments (blocks_of c.in-Ok.module) p.need p.segments p.field-0 p.field-0-is
+    p.ensures.small p.ensures.memory in
     omega (arith, same, few, is.0)
 
 pub returns-in-Ok-play-clause-pool : goal.returns-in-Ok-play-clause-pool

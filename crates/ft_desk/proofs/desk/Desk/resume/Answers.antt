@@ -10,5 +10,6 @@ invariant_of-self c =
     let desk = c.self.inside in (
       ap (λ (w : WriterState). w.account.version) c.resume.ensures.resumed ∙ c.self.invariant.0,
       subst (λ (w : WriterState). IsDesk (desk_of w desk.journal desk.opening.value desk.first.value)) (sym c.resume.ensures.resumed)
-          (with_account desk.pass (after_resume desk.pass.account) desk.journal desk.opening.value desk.first.value refl refl c.self.invariant.1),
+          (with_account desk.pass (after_resume desk.pass.account) desk.journal desk.opening.value desk.first.value refl refl
+          c.self.invariant.1),
     )

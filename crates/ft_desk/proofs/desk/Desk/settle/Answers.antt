@@ -10,5 +10,6 @@ invariant_of-self c =
     let desk = c.self.inside in (
       ap (λ (w : WriterState). w.account.version) c.settle.ensures.settled ∙ c.self.invariant.0,
       subst (λ (w : WriterState). IsDesk (desk_of w desk.journal desk.opening.value desk.first.value)) (sym c.settle.ensures.settled)
-          (with_account desk.pass (after_settle desk.pass.account (hold_at c.args.pass)) desk.journal desk.opening.value desk.first.value refl refl c.self.invariant.1),
+          (with_account desk.pass (after_settle desk.pass.account (hold_at c.args.pass)) desk.journal desk.opening.value desk.first.value refl refl
+          c.self.invariant.1),
     )
