@@ -1,5 +1,5 @@
 -- What is read of a song while it plays: rows, cells, and the samples that voices own.
-use Rattle.std.specs.Prelude.{◌≡◌, ℕ, zero, suc, ◌+◌, ◌*◌, ◌==◌, List, Option, None, Some, length, slice_get, get_or, set, nat_lt, if◌then◌else◌, unwrap_or, ℤ, pos}
+use Rattle.std.specs.Prelude.{◌≡◌, ◌<◌, ℕ, zero, suc, ◌+◌, ◌*◌, ◌==◌, Bool, List, Option, None, Some, length, slice_get, get_or, set, nat_lt, if◌then◌else◌, unwrap_or, ℤ, pos, FitsSigned}
 use Rattle.ft_types.specs.declared.module.Module.{Module}
 use Rattle.ft_types.specs.declared.module.SongHead.{SongHead}
 use Rattle.ft_types.specs.declared.pattern.Pattern.{Pattern}
@@ -9,6 +9,7 @@ use Rattle.ft_types.specs.declared.instrument.Envelope.{Envelope}
 use Rattle.ft_types.specs.declared.instrument.Shape.{Shape}
 use Rattle.ft_types.specs.declared.sample.Sample.{Sample}
 use Rattle.ft_types.specs.declared.voice.SampleHead.{SampleHead}
+use Rattle.ft_types.specs.Valid.{width_of}
 
 -- ---- the song as a whole
 
@@ -132,6 +133,16 @@ head_of_owned (Some owned) = Some (head_of owned.sample)
 abbrev pub frame_of : Option Owned → ℕ → ℤ
 frame_of None place = pos 0
 frame_of (Some owned) place = get_or owned.sample.frames place (pos 0)
+
+-- frames that stand from a place on of it
+abbrev pub AreFramesFrom : Option Owned → ℕ → List ℤ → Type 0
+AreFramesFrom owned first frames =
+    (k : ℕ) → k < length frames → get_or frames k (pos 0) ≡ frame_of owned (first + k)
+
+-- each of them has the width of the sample's frames
+abbrev pub FitWidth : Bool → List ℤ → Type 0
+FitWidth wide frames =
+    (k : ℕ) → k < length frames → FitsSigned (width_of wide) (get_or frames k (pos 0))
 
 -- ---- what a view shows
 

@@ -1,5 +1,5 @@
 -- What the calls of a view cost at most, in steps of the words in which a song may lie.
-use Rattle.std.specs.Prelude.{ℕ, ◌/◌, ◌==◌, ◌||◌, Bool, false, List, [], ◌∷◌, if◌then◌else◌}
+use Rattle.std.specs.Prelude.{ℕ, ◌+◌, ◌-◌, ◌*◌, ◌/◌, ◌==◌, ◌||◌, Bool, false, List, [], ◌∷◌, if◌then◌else◌}
 
 abbrev pub head_bound : ℕ
 head_bound = 1
@@ -56,3 +56,18 @@ is_near word (other ∷ words) = (body_of word == body_of other) || is_near word
 unfoldable pub frame_cost : ℕ → List ℕ → ℕ
 frame_cost word words =
     if is_kept word words then 0 else (if is_near word words then 1 else frame_bound)
+
+-- ---- runs of frames
+
+-- the word of the last of so many frames, of which there is one at least, from a place on
+abbrev pub last_word : ℕ → ℕ → ℕ
+last_word first many = word_of (first + many - 1)
+
+-- the last two words that were asked for, once all words from one to another are asked for in turn
+abbrev pub asked_all : ℕ → ℕ → List ℕ → List ℕ
+asked_all from to words = if to == from then asked to words else to ∷ (to - 1) ∷ []
+
+-- The first of these words costs what it costs by itself, each other one a step, and two more where
+-- it begins a body
+unfoldable pub run_cost : ℕ → ℕ → List ℕ → ℕ
+run_cost from to words = frame_cost from words + (to - from) + 2 * (body_of to - body_of from)

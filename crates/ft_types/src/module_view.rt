@@ -120,6 +120,10 @@ impl<'a> SongView for ModuleView<'a> {
         slots::ask(&mut self.kept, channel, place)
     }
 
+    fn frames(&mut self, channel: u8, first: u32, out: &mut [i16]) {
+        slots::ask_all(&mut self.kept, channel, first, out);
+    }
+
     fn stop(&mut self, channel: u8) {
         slots::put(&mut self.kept, channel, None);
     }

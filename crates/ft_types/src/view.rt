@@ -1,8 +1,8 @@
 //! What a song shows while it plays.
 
-ghost use Rattle.std.specs.Prelude.{◌≡◌, ◌≢◌, ◌≤◌, ◌<◌, ◌+◌, ℕ, List, [], Bool, true, false, None, Some, length, get_or, set, is_some, IfSome, FitsSigned};
+ghost use Rattle.std.specs.Prelude.{◌≡◌, ◌≢◌, ◌≤◌, ◌<◌, ◌+◌, ◌*◌, ℕ, List, [], Bool, true, false, None, Some, length, get_or, set, is_some, IfSome, FitsSigned};
 ghost use Rattle.ft_types.specs.Valid.{width_of, IsValid, IsValidSongHead, IsValidCell, IsValidEnvelope, IsValidShape, IsValidHead};
-ghost use Rattle.ft_types.specs.Views.{Shown, song_head_of, order_at, rows_at, cell_at, instrument_at, envelope_in, shape_in, begun, head_of_owned, frame_of, keeping};
+ghost use Rattle.ft_types.specs.Views.{Shown, song_head_of, order_at, rows_at, cell_at, instrument_at, envelope_in, shape_in, begun, head_of_owned, frame_of, AreFramesFrom, FitWidth, keeping};
 ghost use Rattle.ft_types.specs.Work as work_of;
 
 use crate::instrument::{Envelope, Shape};
@@ -175,6 +175,32 @@ pub trait SongView {
             × (work self.new ≤ work self.old + work_of.frame_bound) }
         ensures cost { work self.new ≤ work self.old
             + work_of.frame_cost (work_of.word_of place) (get_or (words self.old) channel []) }
+        ensures same { same self.old self.new };
+
+    /// Writes the raw frames at the places from `first` on of the sample that a channel keeps over the
+    /// whole of `out`, which has room for one at least. It answers as `frame` does of each in turn, at
+    /// the cost of their words: the first costs what it costs there, each other one a step, and two
+    /// more where it begins a body.
+    fn frames(&mut self, channel: u8, first: u32, out: &mut [i16])
+        requires channel { channel < length (holds self.old) }
+        requires some { 1 ≤ length out.old }
+        requires kept { (h : SampleHead) × keeps self.old channel h
+            × (first + length out.old ≤ h.frames) }
+        ensures shows { (w : Self.World) → shows self.new w
+            → shows self.old w × (shown self.new w ≡ shown self.old w) }
+        ensures values { (w : Self.World) → shows self.new w
+            → AreFramesFrom (get_or (shown self.old w).kept channel None) first out.new }
+        ensures range { (h : SampleHead) → keeps self.old channel h → FitWidth h.wide out.new }
+        ensures many { length out.new ≡ length out.old }
+        ensures holds { holds self.new ≡ holds self.old }
+        ensures keeps { (c : ℕ) (h : SampleHead) → keeps self.old c h → keeps self.new c h }
+        ensures words { words self.new ≡ set (words self.old) channel
+            (work_of.asked_all (work_of.word_of first) (work_of.last_word first (length out.old))
+            (get_or (words self.old) channel [])) }
+        ensures work { (work self.old ≤ work self.new)
+            × (work self.new ≤ work self.old + work_of.frame_bound * length out.old) }
+        ensures cost { work self.new ≤ work self.old + work_of.run_cost (work_of.word_of first)
+            (work_of.last_word first (length out.old)) (get_or (words self.old) channel []) }
         ensures same { same self.old self.new };
 
     /// A channel keeps nothing any more.

@@ -1,6 +1,6 @@
 //! The words of frames that a channel asked for.
 
-ghost use Rattle.std.specs.Prelude.{◌≡◌, []};
+ghost use Rattle.std.specs.Prelude.{◌≡◌, ◌≤◌, []};
 ghost use Rattle.ft_types.specs.Work as work_of;
 ghost use Rattle.ft_types.specs.Words.{words_in};
 
@@ -33,5 +33,18 @@ impl Words {
         }
         self.older = self.newest;
         self.newest = Some(word);
+    }
+
+    /// All words from one to another are asked for in turn.
+    pub fn ask_all(&mut self, from: u32, to: u32)
+        requires { from ≤ to }
+        ensures { words_in self.new ≡ work_of.asked_all from to (words_in self.old) }
+    {
+        if to == from {
+            self.ask(to);
+            return;
+        }
+        self.older = Some(to - 1);
+        self.newest = Some(to);
     }
 }
