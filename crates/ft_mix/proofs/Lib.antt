@@ -3,5 +3,6 @@ mod Parts
 mod Stored
 mod Costs
 mod Sums
+mod Turns
 mod Sounds
 mod After

@@ -1,15 +1,11 @@
 -- A part of a step goes no further than the step.
-use Rattle.std.proofs.Common.{◌≡◌, ℕ, suc, ◌<◌, ◌≤◌, ◌*◌, ◌/◌, ◌%◌, ◌^◌, ℤ, pos, negsuc, ◌+ℤ◌, ◌*ℤ◌, Option, arith}
+use Rattle.std.proofs.Common.{ℕ, suc, ◌<◌, ◌≤◌, ◌*◌, ◌^◌, ℤ, pos, negsuc, ◌+ℤ◌, ◌*ℤ◌, arith}
 use Rattle.std.specs.Prelude.{◌≤ℤ◌, ◌<ℤ◌, FitsSigned}
 use Rattle.std.proofs.lemmas.Int.{ints, by_lt_z}
 use Rattle.std.specs.Int.{w16}
 use Rattle.std.proofs.Math.Nat.{mul-le-mul_left}
 use Rattle.ft_tables.specs.Pitch.{floor_div}
-use Rattle.ft_types.specs.declared.voice.SampleHead.{SampleHead}
-use Rattle.ft_types.specs.Views.{Owned}
-use Rattle.ft_replay.specs.Sound.{part, between, value_at}
-use Rattle.ft_mix.specs.declared.line.Line.{Line}
-use Rattle.ft_mix.specs.Mixing.{IsLine}
+use Rattle.ft_replay.specs.Sound.{part}
 use Rattle.ft_mix.proofs.Floor.{floor_low, floor_high}
 
 times : (a q : ℕ) → q < 2 ^ 32 → a * q ≤ a * 2 ^ 32
@@ -44,13 +40,3 @@ rise_fits first rise r f s goes =
     by_lt_z rise (pos 0)
     (λ lt. let less : rise ≤ℤ pos 0 = omega (arith, ints) in let g = goes.down less in omega (arith, ints))
     (λ le. let more : pos 0 ≤ℤ rise = omega (arith, ints) in let g = goes.up more in omega (arith, ints))
-
--- and is the line of the definition
-pub line_value : (head : SampleHead) (owned : Option Owned) (position fraction : ℕ) (line : Line) (r : ℤ)
-    → IsLine head owned (position / 2 ^ 32) line
-    → fraction ≡ position % 2 ^ 32 → r ≡ part line.rise fraction → (line.first +ℤ r) ≡ value_at head owned position
-unfolding value_at between
-line_value head owned position fraction line r is e f =
-    let first = is.first in
-    let rise = is.rise in
-    cc

@@ -4,10 +4,10 @@ use Rattle.std.specs.Int.{w16}
 use Rattle.ft_types.specs.declared.voice.SampleHead.{SampleHead}
 use Rattle.ft_types.specs.declared.voice.Voice.{Voice}
 use Rattle.ft_types.specs.Views.{Owned, Shown}
-use Rattle.ft_types.specs.Work.{frame_bound, frame_cost, asked, word_of, body_of}
+use Rattle.ft_types.specs.Work.{frame_bound, word_of, body_of}
 use Rattle.ft_replay.specs.Range.{IsVoiceInRange}
 use Rattle.ft_replay.specs.Sound.{place_of, value_in, value_at, left_of, right_of, voices_sum, clipped, is_ended}
-use Rattle.ft_mix.specs.declared.line.Line.{Line}
+use Rattle.ft_mix.specs.declared.piece.Piece.{Piece}
 
 -- ---- what is asked of a view
 
@@ -24,31 +24,16 @@ Tells {W = W} shows shown view view_after answer =
     (w : W) → shows view_after w
     → shows view w × (shown view_after w ≡ shown view w) × answer (shown view w)
 
--- ---- lines between two values
+-- ---- frames that are reached
 
--- the line from the frame that is reached at a place to the next
-pub record IsLine (head : SampleHead) (owned : Option Owned) (at : ℕ) (line : Line) : Type 0 where
-  pub first : line.first ≡ value_in head owned (place_of head at)
-  pub rise :
-      line.rise
-      ≡ (value_in head owned (place_of head (at + 1)) -ℤ value_in head owned (place_of head at))
+-- the place of the k-th frame of a piece, which goes up or down
+abbrev pub place_in : Piece → ℕ → ℕ
+place_in piece k = if piece.down then piece.place - k else piece.place + k
 
--- both its ends have 16 bits
-pub record IsLineInRange (line : Line) : Type 0 where
-  pub first : FitsSigned w16 line.first
-  pub second : FitsSigned w16 (line.first +ℤ line.rise)
-
--- what is read past some lines
-abbrev pub flat : Line
-flat = record { first = pos 0; rise = pos 0 }
-
--- so many lines, one after the other
-abbrev pub AreLines : SampleHead → Option Owned → ℕ → ℕ → List Line → Type 0
-AreLines head owned at many lines =
-    (j : ℕ) → j < many → IsLine head owned (at + j) (get_or lines j flat)
-
-abbrev pub AreLinesInRange : ℕ → List Line → Type 0
-AreLinesInRange many lines = (j : ℕ) → j < many → IsLineInRange (get_or lines j flat)
+-- the values of so many frames that are reached one after the other
+abbrev pub AreReached : SampleHead → Option Owned → ℕ → ℕ → List ℤ → Type 0
+AreReached head owned at many values =
+    (j : ℕ) → j < many → get_or values j (pos 0) ≡ value_in head owned (place_of head (at + j))
 
 -- ---- values
 
@@ -90,11 +75,6 @@ AreFrames kept voices frames out =
     → IsFrame (voices_sum (left_of k) kept voices) (voices_sum (right_of k) kept voices) k out
 
 -- ---- what the calls of a view cost
-
--- the frame at a place was asked for
-pub record Asked (place before after : ℕ) (kept kept_after : List ℕ) : Type 0 where
-  pub words : kept_after ≡ asked (word_of place) kept
-  pub cost : after ≤ before + frame_cost (word_of place) kept
 
 -- a voice without loop that passes at most one frame of its sample for each frame of output
 abbrev pub is_slow : Voice → Bool

@@ -6,7 +6,6 @@ ghost use Rattle.ft_types.specs.Work as work_of;
 ghost use Rattle.ft_replay.specs.Sound as sound;
 ghost use Rattle.ft_mix.specs.Mixing as mixing;
 
-use crate::line::Line;
 use crate::voice::add_voice;
 use ft_types::{SampleHead, SongView, Voice};
 
@@ -25,7 +24,7 @@ fn add_voices<V: SongView>(
     view: &mut V,
     voices: &[Voice],
     first: u32,
-    lines: &mut [Line],
+    reached: &mut [i16],
     left: &mut [i32],
     right: &mut [i32],
 )
@@ -36,14 +35,14 @@ fn add_voices<V: SongView>(
     requires few { length left.old ≤ 256 }
     requires both { length right.old ≡ length left.old }
     requires frames { first + length left.old ≤ 3751 }
-    requires room { length lines.old ≡ 512 }
+    requires room { length reached.old ≡ 512 }
     requires left { (k : ℕ) → k < length left.old → get_or left.old k (pos 0) ≡ pos 0 }
     requires right { (k : ℕ) → k < length left.old → get_or right.old k (pos 0) ≡ pos 0 }
     ensures sums { mixing.Tells V.shows V.shown view.old view.new (λ shown. mixing.AreSums first
         shown.kept voices.now (length left.old) left.new right.new) }
     ensures many { length left.new ≡ length left.old }
     ensures both { length right.new ≡ length right.old }
-    ensures room { length lines.new ≡ length lines.old }
+    ensures room { length reached.new ≡ length reached.old }
     ensures holds { V.holds view.new ≡ V.holds view.old }
     ensures keeps { (c : ℕ) (h : SampleHead) → V.keeps view.old c h → V.keeps view.new c h }
     ensures work { (V.work view.old ≤ V.work view.new) × (V.work view.new
@@ -55,7 +54,7 @@ fn add_voices<V: SongView>(
     let mut room = [0; 256];
     let values = &mut room[..left.len()];
     for voice in voices {
-        add_voice(view, *voice, first, lines, values, left, right);
+        add_voice(view, *voice, first, reached, values, left, right);
     }
 }
 
@@ -95,12 +94,12 @@ fn write(left: &[i32], right: &[i32], first: usize, out: &mut [i16])
 }
 
 /// Writes the frames of a tick from `first` on, as many as there are sums of each side. What the
-/// lent lines and sums hold afterwards isn't said.
+/// lent values and sums hold afterwards isn't said.
 fn fill_block<V: SongView>(
     view: &mut V,
     voices: &[Voice],
     first: u32,
-    lines: &mut [Line],
+    reached: &mut [i16],
     left: &mut [i32],
     right: &mut [i32],
     out: &mut [i16],
@@ -112,7 +111,7 @@ fn fill_block<V: SongView>(
     requires few { length left.old ≤ 256 }
     requires both { length right.old ≡ length left.old }
     requires frames { first + length left.old ≤ 3751 }
-    requires lines { length lines.old ≡ 512 }
+    requires reached { length reached.old ≡ 512 }
     requires room { 2 * (first + length left.old) ≤ length out.old }
     ensures frames { mixing.Tells V.shows V.shown view.old view.new (λ shown.
         (k : ℕ) → k < length left.old → mixing.IsFrame
@@ -120,7 +119,7 @@ fn fill_block<V: SongView>(
         (sound.voices_sum (sound.right_of (first + k)) shown.kept voices.now) (first + k) out.new) }
     ensures before { (j : ℕ) → j < 2 * first → get_or out.new j (pos 0) ≡ get_or out.old j (pos 0) }
     ensures many { length out.new ≡ length out.old }
-    ensures lines { length lines.new ≡ length lines.old }
+    ensures reached { length reached.new ≡ length reached.old }
     ensures holds { V.holds view.new ≡ V.holds view.old }
     ensures keeps { (c : ℕ) (h : SampleHead) → V.keeps view.old c h → V.keeps view.new c h }
     ensures work { (V.work view.old ≤ V.work view.new) × (V.work view.new
@@ -131,7 +130,7 @@ fn fill_block<V: SongView>(
 {
     silence(left);
     silence(right);
-    add_voices(view, voices, first, lines, left, right);
+    add_voices(view, voices, first, reached, left, right);
     write(left, right, first as usize, out);
 }
 
@@ -165,7 +164,7 @@ pub fn fill<V: SongView>(view: &mut V, voices: &[Voice], out: &mut [i16])
     ensures same { V.same view.old view.new }
 {
     let frames = out.len() / 2;
-    let mut lines = [Line { first: 0, rise: 0 }; 512];
+    let mut reached = [0; 512];
     let mut left = [0; 256];
     let mut right = [0; 256];
     for block in 0..frames.div_ceil(256) {
@@ -175,7 +174,7 @@ pub fn fill<V: SongView>(view: &mut V, voices: &[Voice], out: &mut [i16])
             view,
             voices,
             first as u32,
-            &mut lines,
+            &mut reached,
             &mut left[..many],
             &mut right[..many],
             out,

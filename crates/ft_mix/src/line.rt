@@ -1,53 +1,25 @@
-//! Lines between two values, on which a voice moves.
+//! The straight line between two values, on which a voice moves.
 
-ghost use Rattle.std.specs.Prelude.{◌≡◌, ◌/◌, ◌%◌, ◌^◌, ◌≤ℤ◌, ◌-ℤ◌, ℕ, pos, negsuc, Option, FitsSigned};
+ghost use Rattle.std.specs.Prelude.{◌≡◌, ◌^◌, ◌≤ℤ◌, pos, negsuc, FitsSigned};
 ghost use Rattle.std.specs.Int.{w16};
-ghost use Rattle.ft_types.specs.declared.voice.SampleHead.{SampleHead};
-ghost use Rattle.ft_types.specs.Views.{Owned};
 ghost use Rattle.ft_replay.specs.Sound as sound;
-ghost use Rattle.ft_mix.specs.Mixing as mixing;
-
-/// The straight line from the value of a frame to that of the frame that is reached next.
-#[derive(Clone, Copy)]
-pub struct Line {
-    /// The value at its beginning, -32,768 to 32,767.
-    pub first: i32,
-    /// How much higher the value at its end is, -65,535 to 65,535.
-    pub rise: i64,
-}
-
-/// The line from a value to another one, each of -32,768 to 32,767.
-pub fn line_between(first: i32, second: i32) -> Line
-    requires first { FitsSigned w16 first }
-    requires second { FitsSigned w16 second }
-    ensures first { result.first ≡ first }
-    ensures rise { result.rise ≡ (second -ℤ first) }
-    ensures range { mixing.IsLineInRange result }
-{
-    Line {
-        first,
-        rise: i64::from(second - first),
-    }
-}
 
 /// How much of a rise, -65,535 to 65,535, is made at a fraction of 2^32, rounded down.
 #[tactic(auto, unfolding(ft_replay::specs::Sound::part))]
-fn part(rise: i64, fraction: u32) -> i32
+fn part(rise: i64, fraction: u32) -> i64
     requires low { negsuc 65534 ≤ℤ rise }
     requires high { rise ≤ℤ pos 65535 }
     ensures { result ≡ sound.part rise fraction }
 {
-    ((rise * i64::from(fraction)) >> 32) as i32
+    (rise * i64::from(fraction)) >> 32
 }
 
-/// The value of a line at a fraction of 2^32.
-pub fn value_on(line: Line, fraction: u32) -> i32
-    requires range { mixing.IsLineInRange line }
-    ensures value { (head : SampleHead) (owned : Option Owned) (position : ℕ)
-        → mixing.IsLine head owned (position / 2 ^ 32) line → fraction ≡ position % 2 ^ 32
-        → result ≡ sound.value_at head owned position }
-    ensures low { negsuc 32767 ≤ℤ result }
-    ensures high { result ≤ℤ pos 32767 }
+/// The value at a fraction of 2^32 on the line from a value to the next, each of -32,768 to 32,767.
+pub fn between(first: i16, second: i16, fraction: u32) -> i32
+    ensures value { result ≡ sound.between first second fraction }
+    ensures range { FitsSigned w16 result }
 {
-    line.first + part(line.rise, fraction)
+    let first = i64::from(first);
+    let second = i64::from(second);
+    (first + part(second - first, fraction)) as i32
 }

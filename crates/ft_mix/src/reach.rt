@@ -1,6 +1,6 @@
 //! The places of a sample that are reached, and their values.
 
-ghost use Rattle.std.specs.Prelude.{◌≡◌, ◌≤◌, ◌<◌, ◌+◌, ◌*◌, ◌≤ℤ◌, ℕ, pos, negsuc, [], None, Some, IfSome, FitsSigned, length, get_or};
+ghost use Rattle.std.specs.Prelude.{◌≡◌, ◌≤◌, ◌<◌, ◌+◌, ◌*◌, ℕ, None, IfSome, FitsSigned, length, get_or};
 ghost use Rattle.ft_types.specs.Valid.{width_of, IsValidHead};
 ghost use Rattle.ft_types.specs.Work as work_of;
 ghost use Rattle.ft_replay.specs.Sound as sound;
@@ -67,67 +67,30 @@ pub fn place(head: &SampleHead, i: u32) -> Option<u32>
 }
 
 /// The value of a raw frame: one of 8 bits counts 256 times.
-fn loudness(raw: i16, wide: bool) -> i32
+fn loudness(raw: i16, wide: bool) -> i16
     requires { FitsSigned (width_of wide) raw }
-    ensures value { result ≡ sound.loudness wide raw }
-    ensures low { negsuc 32767 ≤ℤ result }
-    ensures high { result ≤ℤ pos 32767 }
+    ensures { result ≡ sound.loudness wide raw }
 {
     let scale = if wide { 1 } else { 256 };
-    scale * i32::from(raw)
+    scale * raw
 }
 
 /// The value of the frame that a channel's voice reaches at `i`; past the end of a sample without
 /// loop it is 0.
-#[cold]
-#[inline(never)]
-fn value_past<V: SongView>(view: &mut V, channel: u8, head: &SampleHead, i: u32) -> i32
+pub fn value_of<V: SongView>(view: &mut V, channel: u8, head: &SampleHead, i: u32) -> i16
     requires head { IsValidHead head.now }
     requires channel { channel < length (V.holds view.old) }
     requires kept { V.keeps view.old channel head.now }
     ensures value { mixing.Tells V.shows V.shown view.old view.new (λ shown. result
         ≡ sound.value_in head.now (get_or shown.kept channel None) (sound.place_of head.now i)) }
-    ensures low { negsuc 32767 ≤ℤ result }
-    ensures high { result ≤ℤ pos 32767 }
     ensures holds { V.holds view.new ≡ V.holds view.old }
     ensures keeps { (c : ℕ) (h : SampleHead) → V.keeps view.old c h → V.keeps view.new c h }
     ensures work { (V.work view.old ≤ V.work view.new)
         × (V.work view.new ≤ V.work view.old + work_of.frame_bound) }
-    ensures asks { (place : ℕ) → sound.place_of head.now i ≡ Some place → mixing.Asked place
-        (V.work view.old) (V.work view.new)
-        (get_or (V.words view.old) channel []) (get_or (V.words view.new) channel []) }
-    ensures rests { sound.place_of head.now i ≡ None → V.work view.new ≤ V.work view.old }
     ensures same { V.same view.old view.new }
 {
     let Some(place) = place(head, i) else {
         return 0;
     };
     loudness(view.frame(channel, place), head.wide)
-}
-
-/// The same, where the end of the loop or of the sample is at hand, so that a frame before it is
-/// asked for at once.
-pub fn value_of<V: SongView>(view: &mut V, channel: u8, head: &SampleHead, end: u32, i: u32) -> i32
-    requires head { IsValidHead head.now }
-    requires end { end ≡ sound.end_of head.now }
-    requires channel { channel < length (V.holds view.old) }
-    requires kept { V.keeps view.old channel head.now }
-    ensures value { mixing.Tells V.shows V.shown view.old view.new (λ shown. result
-        ≡ sound.value_in head.now (get_or shown.kept channel None) (sound.place_of head.now i)) }
-    ensures low { negsuc 32767 ≤ℤ result }
-    ensures high { result ≤ℤ pos 32767 }
-    ensures holds { V.holds view.new ≡ V.holds view.old }
-    ensures keeps { (c : ℕ) (h : SampleHead) → V.keeps view.old c h → V.keeps view.new c h }
-    ensures work { (V.work view.old ≤ V.work view.new)
-        × (V.work view.new ≤ V.work view.old + work_of.frame_bound) }
-    ensures asks { (place : ℕ) → sound.place_of head.now i ≡ Some place → mixing.Asked place
-        (V.work view.old) (V.work view.new)
-        (get_or (V.words view.old) channel []) (get_or (V.words view.new) channel []) }
-    ensures rests { sound.place_of head.now i ≡ None → V.work view.new ≤ V.work view.old }
-    ensures same { V.same view.old view.new }
-{
-    if i < end {
-        return loudness(view.frame(channel, i), head.wide);
-    }
-    value_past(view, channel, head, i)
 }

@@ -1,46 +1,49 @@
 //! The values of a voice.
 
-ghost use Rattle.std.specs.Prelude.{◌≡◌, ◌≤◌, ◌<◌, ◌+◌, ◌*◌, ◌/◌, ◌^◌, ℕ, None, Option, length, get_or};
+ghost use Rattle.std.specs.Prelude.{◌≡◌, ◌≤◌, ◌<◌, ◌+◌, ◌*◌, ◌/◌, ◌^◌, ℕ, None, Option, FitsSigned, length, get_or};
+ghost use Rattle.std.specs.Int.{w16};
 ghost use Rattle.ft_types.specs.declared.voice.SampleHead.{SampleHead as Head};
 ghost use Rattle.ft_types.specs.Valid.{IsValidHead};
 ghost use Rattle.ft_types.specs.Views.{Owned};
 ghost use Rattle.ft_types.specs.Work as work_of;
+ghost use Rattle.ft_replay.specs.Sound as sound;
 ghost use Rattle.ft_mix.specs.Mixing as mixing;
 
-use crate::line::{Line, value_on};
-use crate::lines::{read_line, read_lines};
-use crate::reach::end;
-use ft_types::{SongView, Voice};
+use crate::line::between;
+use crate::reach::value_of;
+use crate::reached::read_reached;
+use ft_types::{SampleHead, SongView, Voice};
 
-/// The values from a place on the first of some lines on, each a step after the one before. Places
-/// count from the beginning of the first line, and a line has 2^32.
-fn walk(lines: &[Line], start: u64, step: u64, values: &mut [i32])
+/// The values from a place on between some that are reached, each a step after the one before. Places
+/// count from the first that is reached, and 2^32 are between it and the next.
+fn walk(reached: &[i16], start: u64, step: u64, values: &mut [i32])
     requires start { start < 2 ^ 32 }
     requires step { step ≤ 2 ^ 33 }
     requires few { length values.old ≤ 3751 }
-    requires lines { (k : ℕ) → k < length values.old
-        → (start + k * step) / 2 ^ 32 < length lines.now }
-    requires range { mixing.AreLinesInRange (length lines.now) lines.now }
+    requires reached { (k : ℕ) → k < length values.old
+        → (start + k * step) / 2 ^ 32 + 1 < length reached.now }
+    requires range { mixing.Fit16 (length reached.now) reached.now }
     ensures values { (head : Head) (owned : Option Owned) (at : ℕ)
-        → mixing.AreLines head owned at (length lines.now) lines.now
+        → mixing.AreReached head owned at (length reached.now) reached.now
         → mixing.AreValues head owned (at * 2 ^ 32 + start) step (length values.old) values.new }
     ensures range { mixing.Fit16 (length values.old) values.new }
     ensures many { length values.new ≡ length values.old }
 {
     let mut place = start;
     for value in values.iter_mut() {
-        *value = value_on(lines[(place >> 32) as usize], (place % (1 << 32)) as u32);
+        let at = (place >> 32) as usize;
+        *value = between(reached[at], reached[at + 1], (place % (1 << 32)) as u32);
         place += step;
     }
 }
 
 /// The values of a voice from a position on, where it moves by at most two frames at once: first
-/// all lines that it reaches are read, and then it walks on them.
+/// all frames that it reaches are read, and then it walks on between them.
 fn read_walk<V: SongView>(
     view: &mut V,
     voice: Voice,
     position: u64,
-    lines: &mut [Line],
+    reached: &mut [i16],
     values: &mut [i32],
 )
     requires channel { voice.channel < length (V.holds view.old) }
@@ -50,13 +53,13 @@ fn read_walk<V: SongView>(
     requires step { voice.step ≤ 2 ^ 33 }
     requires some { 1 ≤ length values.old }
     requires few { length values.old ≤ 256 }
-    requires room { length lines.old ≡ 512 }
+    requires room { length reached.old ≡ 512 }
     ensures values { mixing.Tells V.shows V.shown view.old view.new (λ shown. mixing.AreValues
         voice.head (get_or shown.kept voice.channel None) position voice.step
         (length values.old) values.new) }
     ensures range { mixing.Fit16 (length values.old) values.new }
     ensures many { length values.new ≡ length values.old }
-    ensures room { length lines.new ≡ length lines.old }
+    ensures room { length reached.new ≡ length reached.old }
     ensures holds { V.holds view.new ≡ V.holds view.old }
     ensures keeps { (c : ℕ) (h : Head) → V.keeps view.old c h → V.keeps view.new c h }
     ensures work { (V.work view.old ≤ V.work view.new) × (V.work view.new
@@ -67,8 +70,8 @@ fn read_walk<V: SongView>(
 {
     let start = position % (1 << 32);
     let last = start + (values.len() as u64 - 1) * voice.step;
-    let reached = &mut lines[..(last >> 32) as usize + 1];
-    read_lines(
+    let reached = &mut reached[..(last >> 32) as usize + 2];
+    read_reached(
         view,
         voice.channel,
         &voice.head,
@@ -78,7 +81,28 @@ fn read_walk<V: SongView>(
     walk(reached, start, voice.step, values);
 }
 
-/// The values of a voice from a position on, each by a line of its own.
+/// The value of a channel's voice at a position, which has 32 bits of fraction.
+fn read_value<V: SongView>(view: &mut V, channel: u8, head: &SampleHead, position: u64) -> i32
+    requires channel { channel < length (V.holds view.old) }
+    requires kept { V.keeps view.old channel head.now }
+    requires head { IsValidHead head.now }
+    requires position { position < 2 ^ 56 }
+    ensures value { mixing.Tells V.shows V.shown view.old view.new (λ shown. result
+        ≡ sound.value_at head.now (get_or shown.kept channel None) position) }
+    ensures range { FitsSigned w16 result }
+    ensures holds { V.holds view.new ≡ V.holds view.old }
+    ensures keeps { (c : ℕ) (h : Head) → V.keeps view.old c h → V.keeps view.new c h }
+    ensures work { (V.work view.old ≤ V.work view.new)
+        × (V.work view.new ≤ V.work view.old + 2 * work_of.frame_bound) }
+    ensures same { V.same view.old view.new }
+{
+    let at = (position >> 32) as u32;
+    let first = value_of(view, channel, head, at);
+    let second = value_of(view, channel, head, at + 1);
+    between(first, second, (position % (1 << 32)) as u32)
+}
+
+/// The values of a voice from a position on, each read by itself.
 fn read_leaps<V: SongView>(view: &mut V, voice: Voice, position: u64, values: &mut [i32])
     requires channel { voice.channel < length (V.holds view.old) }
     requires kept { V.keeps view.old voice.channel voice.head }
@@ -95,35 +119,33 @@ fn read_leaps<V: SongView>(view: &mut V, voice: Voice, position: u64, values: &m
         ≤ V.work view.old + 2 * work_of.frame_bound * length values.old) }
     ensures same { V.same view.old view.new }
 {
-    let end = end(&voice.head);
     let mut place = position;
     for value in values.iter_mut() {
-        let line = read_line(view, voice.channel, &voice.head, end, (place >> 32) as u32);
-        *value = value_on(line, (place % (1 << 32)) as u32);
+        *value = read_value(view, voice.channel, &voice.head, place);
         place += voice.step;
     }
 }
 
-/// The values of a voice at the frames of its tick from `first` on. What `lines` lends holds
+/// The values of a voice at the frames of its tick from `first` on. What `reached` lends holds
 /// afterwards isn't said.
 pub fn read_values<V: SongView>(
     view: &mut V,
     voice: Voice,
     first: u32,
-    lines: &mut [Line],
+    reached: &mut [i16],
     values: &mut [i32],
 )
     requires voice { mixing.IsMixed (V.keeps view.old) (length (V.holds view.old)) voice }
     requires some { 1 ≤ length values.old }
     requires few { length values.old ≤ 256 }
     requires frames { first + length values.old ≤ 3751 }
-    requires room { length lines.old ≡ 512 }
+    requires room { length reached.old ≡ 512 }
     ensures values { mixing.Tells V.shows V.shown view.old view.new (λ shown. mixing.AreValues
         voice.head (get_or shown.kept voice.channel None) (voice.pos + first * voice.step)
         voice.step (length values.old) values.new) }
     ensures range { mixing.Fit16 (length values.old) values.new }
     ensures many { length values.new ≡ length values.old }
-    ensures room { length lines.new ≡ length lines.old }
+    ensures room { length reached.new ≡ length reached.old }
     ensures holds { V.holds view.new ≡ V.holds view.old }
     ensures keeps { (c : ℕ) (h : Head) → V.keeps view.old c h → V.keeps view.new c h }
     ensures work { (V.work view.old ≤ V.work view.new) × (V.work view.new
@@ -134,7 +156,7 @@ pub fn read_values<V: SongView>(
 {
     let position = voice.pos + u64::from(first) * voice.step;
     if voice.step <= 1 << 33 {
-        read_walk(view, voice, position, lines, values);
+        read_walk(view, voice, position, reached, values);
         return;
     }
     read_leaps(view, voice, position, values);

@@ -6,18 +6,17 @@ ghost use Rattle.ft_replay.specs.Sound as sound;
 ghost use Rattle.ft_mix.specs.Mixing as mixing;
 
 use crate::gain::add_values;
-use crate::line::Line;
 use crate::values::read_values;
 use ft_types::{SampleHead, SongView, Voice};
 
 /// Adds what a voice adds to both sides of the frames of its tick from `first` on. A voice without
-/// gain adds nothing, and nothing is read for it. What the lent lines and values hold afterwards isn't
+/// gain adds nothing, and nothing is read for it. What the lent values hold afterwards isn't
 /// said.
 pub fn add_voice<V: SongView>(
     view: &mut V,
     voice: Voice,
     first: u32,
-    lines: &mut [Line],
+    reached: &mut [i16],
     values: &mut [i32],
     left: &mut [i32],
     right: &mut [i32],
@@ -28,7 +27,7 @@ pub fn add_voice<V: SongView>(
     requires both { length right.old ≡ length left.old }
     requires values { length values.old ≡ length left.old }
     requires frames { first + length left.old ≤ 3751 }
-    requires room { length lines.old ≡ 512 }
+    requires room { length reached.old ≡ 512 }
     requires left { mixing.AreLoud 31 (length left.old) left.old }
     requires right { mixing.AreLoud 31 (length left.old) right.old }
     ensures sums { mixing.Tells V.shows V.shown view.old view.new (λ shown.
@@ -44,7 +43,7 @@ pub fn add_voice<V: SongView>(
     ensures many { length left.new ≡ length left.old }
     ensures both { length right.new ≡ length right.old }
     ensures values { length values.new ≡ length values.old }
-    ensures room { length lines.new ≡ length lines.old }
+    ensures room { length reached.new ≡ length reached.old }
     ensures holds { V.holds view.new ≡ V.holds view.old }
     ensures keeps { (c : ℕ) (h : SampleHead) → V.keeps view.old c h → V.keeps view.new c h }
     ensures work { (V.work view.old ≤ V.work view.new) × (V.work view.new
@@ -55,7 +54,7 @@ pub fn add_voice<V: SongView>(
     if voice.left == 0 && voice.right == 0 {
         return;
     }
-    read_values(view, voice, first, lines, values);
+    read_values(view, voice, first, reached, values);
     add_values(values, voice.left, left);
     add_values(values, voice.right, right);
 }

@@ -20,7 +20,7 @@ invariant-loop-voice g l = record {
   many : length l.left ≡ length l.fn.left;
   both : length l.right ≡ length l.fn.right;
   values : length l.values ≡ length l.fn.left;
-  room : length l.lines ≡ length l.fn.lines;
+  room : length l.reached ≡ length l.fn.reached;
   holds : g.V.SongView.holds l.view ≡ g.V.SongView.holds l.fn.view;
   keeps : (c : ℕ) (h : SampleHead) → g.V.SongView.keeps l.fn.view c h → g.V.SongView.keeps l.view c h;
   work : (g.V.SongView.work l.fn.view ≤ g.V.SongView.work l.view)

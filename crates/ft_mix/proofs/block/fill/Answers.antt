@@ -45,7 +45,7 @@ loop-block-preserved g c =
                 (in_block (256 * block) many (length c.args.out.now / 2) k whole (omega arith) below),
           );
       many = c.fill_block.ensures.many ∙ c.loop-block.invariant.many;
-      lines = c.fill_block.ensures.lines ∙ c.loop-block.invariant.lines;
+      reached = c.fill_block.ensures.reached ∙ c.loop-block.invariant.reached;
       holds = c.fill_block.ensures.holds ∙ c.loop-block.invariant.holds;
       keeps = λ k h s. c.fill_block.ensures.keeps k h (c.loop-block.invariant.keeps k h s);
       rising = omega arith;

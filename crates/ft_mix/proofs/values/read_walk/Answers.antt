@@ -7,13 +7,13 @@ from_frame position on = omega arith
 
 pub returns-clause-values : goal.returns-clause-values
 returns-clause-values g c = λ w is.
-    let a = c.read_lines.ensures.lines w is in
+    let a = c.read_reached.ensures.values w is in
     let voice = c.args.voice in
     let owned = get_or (g.V.SongView.shown c.args.view.now w).kept voice.channel None in (
       a.0,
       a.1,
       λ k lt.
           c.walk.ensures.values voice.head owned (c.args.position / 2 ^ 32)
-          (λ j less. a.2 j (subst (λ (n : ℕ). j < n) c.read_lines.ensures.many less)) k lt
+          (λ j less. a.2 j (subst (λ (n : ℕ). j < n) c.read_reached.ensures.many less)) k lt
           ∙ ap (value_at voice.head owned) (from_frame c.args.position (k * voice.step)),
     )

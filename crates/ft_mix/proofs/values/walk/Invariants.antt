@@ -7,7 +7,7 @@ use Rattle.ft_mix.proofs.values.walk.Given as goal
 abbrev pub invariant-loop-value : goal.invariant-loop-value
 invariant-loop-value l = record {
   place : l.place ≡ l.start + l.value-index * l.step;
-  values : (head : SampleHead) (owned : Option Owned) (at : ℕ) → mixing.AreLines head owned at (length l.lines) l.lines
+  values : (head : SampleHead) (owned : Option Owned) (at : ℕ) → mixing.AreReached head owned at (length l.reached) l.reached
       → mixing.AreValues head owned (at * 2 ^ 32 + l.start) l.step l.value-index l.values;
   range : mixing.Fit16 l.value-index l.values;
 }
