@@ -1,5 +1,5 @@
 -- What the calls of a view cost, voice by voice.
-use Rattle.std.proofs.Common.{◌≡◌, ℕ, suc, ◌+◌, ◌-◌, ◌*◌, ◌<◌, ◌≤◌, ◌==◌, Bool, true, false, List, [], ◌∷◌, length, Option, None, Some, ltb, lt-ltb, le-ltb, if◌then◌else◌, refl, ap, ◌∙◌, arith}
+use Rattle.std.proofs.Common.{◌≡◌, ℕ, suc, ◌+◌, ◌-◌, ◌<◌, ◌≤◌, Bool, true, false, List, [], ◌∷◌, length, Option, None, Some, ltb, lt-ltb, le-ltb, if◌then◌else◌, refl, ap, ◌∙◌, arith}
 use Rattle.std.specs.List.{sum_by}
 use Rattle.std.specs.Prelude.{nat_lt, ◌%◌}
 use Rattle.std.proofs.lemmas.Bool.{cond_both, eq-eqb, ltb-true, ltb-false}
@@ -7,7 +7,7 @@ use Rattle.std.proofs.lemmas.List.Sums.{sum_by-cons}
 use Rattle.ft_types.specs.declared.voice.SampleHead.{SampleHead}
 use Rattle.ft_types.specs.declared.voice.Voice.{Voice}
 use Rattle.ft_types.specs.Work.{frame_cost, run_cost, is_kept, is_near, word_of, last_word}
-use Rattle.ft_replay.specs.Sound.{end_of, place_of, reflected, loop_turn}
+use Rattle.ft_replay.specs.Sound.{place_of, reflected, loop_turn}
 use Rattle.ft_mix.specs.Mixing.{is_slow, cost_by, way_cost}
 
 -- ---- words

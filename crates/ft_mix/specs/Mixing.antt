@@ -1,5 +1,5 @@
 -- What is mixed, the sums of both sides, and what mixing leaves.
-use Rattle.std.specs.Prelude.{ℕ, ◌+◌, ◌-◌, ◌*◌, ◌^◌, ◌/◌, ◌==◌, ◌&&◌, ◌<◌, ◌≤◌, Bool, nat_le, if◌then◌else◌, FitsSigned, ◌≡◌, ◌≢◌, ◌≤ℤ◌, ◌-ℤ◌, ℤ, pos, ◌+ℤ◌, true, List, [], ◌∷◌, Option, get_or}
+use Rattle.std.specs.Prelude.{ℕ, ◌+◌, ◌-◌, ◌*◌, ◌^◌, ◌/◌, ◌==◌, ◌&&◌, ◌<◌, Bool, nat_le, if◌then◌else◌, FitsSigned, ◌≡◌, ◌≢◌, ◌≤ℤ◌, ◌-ℤ◌, ℤ, pos, true, List, [], ◌∷◌, Option, get_or}
 use Rattle.std.specs.Int.{w16}
 use Rattle.ft_types.specs.declared.voice.SampleHead.{SampleHead}
 use Rattle.ft_types.specs.declared.voice.Voice.{Voice}

@@ -1,5 +1,5 @@
 use Rattle.std.proofs.Common.{◌≡◌, ◌∙◌, arith, ap, subst, sym, ℤ, ◌+ℤ◌}
-use Rattle.std.specs.Int.{w16, w64}
+use Rattle.std.specs.Int.{w16}
 use Rattle.std.specs.Prelude.{FitsSigned, ◌-ℤ◌}
 use Rattle.std.proofs.lemmas.Int.{ints, to_z-of_z}
 use Rattle.ft_replay.specs.Sound as sound

@@ -1,5 +1,5 @@
-use Rattle.std.proofs.Common.{rules, ◌≡◌, ◌≤◌, ◌<◌, ◌+◌, ◌-◌, ◌%◌, ℕ, Some, subst, sym, arith}
-use Rattle.ft_replay.specs.Sound.{end_of, loop_turn, place_of}
+use Rattle.std.proofs.Common.{◌≡◌, ◌≤◌, ◌<◌, ◌+◌, ◌-◌, ◌%◌, ℕ, Some, subst, sym, arith}
+use Rattle.ft_replay.specs.Sound.{end_of, place_of}
 use Rattle.ft_mix.proofs.Turns.{goes_up, goes_down, end_is}
 use Rattle.ft_mix.proofs.piece.piece_at.Goals as goal
 

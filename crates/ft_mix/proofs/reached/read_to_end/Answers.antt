@@ -1,6 +1,6 @@
-use Rattle.std.proofs.Common.{rules, ◌≡◌, ◌≤◌, ◌<◌, ◌+◌, ◌∙◌, ℕ, pos, None, Option, length, take, drop, get_or, ap, sym, refl, arith}
+use Rattle.std.proofs.Common.{rules, ◌≡◌, ◌≤◌, ◌+◌, ◌∙◌, pos, None, length, take, drop, get_or, ap, sym, refl, arith}
 use Rattle.std.proofs.lemmas.List.{length-take-le, get_or_append_left}
-use Rattle.ft_replay.specs.Sound.{value_in, place_of}
+use Rattle.ft_replay.specs.Sound.{value_in}
 use Rattle.ft_mix.proofs.Costs.{by_lt, place_within, place_past}
 use Rattle.ft_mix.proofs.reached.read_to_end.Goals as goal
 
