@@ -1,6 +1,6 @@
 //! The values of a voice.
 
-ghost use Rattle.std.specs.Prelude.{◌≡◌, ◌≤◌, ◌<◌, ◌+◌, ◌*◌, ◌/◌, ◌^◌, ℕ, None, Option, FitsSigned, length, get_or};
+ghost use Rattle.std.specs.Prelude.{◌≡◌, ◌≤◌, ◌<◌, ◌+◌, ◌*◌, ◌/◌, ◌^◌, ℕ, pos, None, Option, FitsSigned, length, get_or};
 ghost use Rattle.std.specs.Int.{w16};
 ghost use Rattle.ft_types.specs.declared.voice.SampleHead.{SampleHead as Head};
 ghost use Rattle.ft_types.specs.Valid.{IsValidHead};
@@ -14,8 +14,69 @@ use crate::reach::value_of;
 use crate::reached::read_reached;
 use ft_types::{SampleHead, SongView, Voice};
 
-/// The values from a place on between some that are reached, each a step after the one before. Places
-/// count from the first that is reached, and 2^32 are between it and the next.
+/// The value at a place between some that are reached. Places count from the first of them, and 2^32
+/// are between it and the next.
+#[inline]
+fn value_between(reached: &[i16], place: u64) -> i32
+    requires reached { place / 2 ^ 32 + 1 < length reached.now }
+    requires range { mixing.Fit16 (length reached.now) reached.now }
+    ensures value { (head : Head) (owned : Option Owned) (at : ℕ)
+        → mixing.AreReached head owned at (length reached.now) reached.now
+        → result ≡ sound.value_at head owned (at * 2 ^ 32 + place) }
+    ensures range { FitsSigned w16 result }
+{
+    let at = (place >> 32) as usize;
+    between(reached[at], reached[at + 1], (place % (1 << 32)) as u32)
+}
+
+/// The next four values, from the k-th on, each a step after the one before: the k-th is at this place.
+#[inline]
+fn walk_four(reached: &[i16], place: u64, step: u64, values: &mut [i32], k: usize)
+    requires room { k + 4 ≤ length values.old }
+    requires place { place < 2 ^ 62 }
+    requires step { step ≤ 2 ^ 33 }
+    requires reached { (place + 3 * step) / 2 ^ 32 + 1 < length reached.now }
+    requires range { mixing.Fit16 (length reached.now) reached.now }
+    ensures values { (head : Head) (owned : Option Owned) (at position : ℕ)
+        → mixing.AreReached head owned at (length reached.now) reached.now
+        → position + k * step ≡ at * 2 ^ 32 + place
+        → mixing.AreValues head owned position step k values.old
+        → mixing.AreValues head owned position step (k + 4) values.new }
+    ensures range { mixing.Fit16 k values.old → mixing.Fit16 (k + 4) values.new }
+    ensures many { length values.new ≡ length values.old }
+{
+    let second = place + step;
+    let third = second + step;
+    values[k] = value_between(reached, place);
+    values[k + 1] = value_between(reached, second);
+    values[k + 2] = value_between(reached, third);
+    values[k + 3] = value_between(reached, third + step);
+}
+
+/// The values from a place on between some that are reached, each a step after the one before, as many
+/// as a multiple of four.
+fn walk_fours(reached: &[i16], start: u64, step: u64, values: &mut [i32])
+    requires start { start < 2 ^ 32 }
+    requires step { step ≤ 2 ^ 33 }
+    requires few { length values.old ≤ 3751 }
+    requires reached { (k : ℕ) → k < length values.old
+        → (start + k * step) / 2 ^ 32 + 1 < length reached.now }
+    requires range { mixing.Fit16 (length reached.now) reached.now }
+    ensures values { (head : Head) (owned : Option Owned) (at : ℕ)
+        → mixing.AreReached head owned at (length reached.now) reached.now
+        → mixing.AreValues head owned (at * 2 ^ 32 + start) step (4 * (length values.old / 4))
+        values.new }
+    ensures range { mixing.Fit16 (4 * (length values.old / 4)) values.new }
+    ensures many { length values.new ≡ length values.old }
+{
+    let mut place = start;
+    for four in 0..values.len() / 4 {
+        walk_four(reached, place, step, values, 4 * four);
+        place += 4 * step;
+    }
+}
+
+/// The same, all of them.
 fn walk(reached: &[i16], start: u64, step: u64, values: &mut [i32])
     requires start { start < 2 ^ 32 }
     requires step { step ≤ 2 ^ 33 }
@@ -29,11 +90,9 @@ fn walk(reached: &[i16], start: u64, step: u64, values: &mut [i32])
     ensures range { mixing.Fit16 (length values.old) values.new }
     ensures many { length values.new ≡ length values.old }
 {
-    let mut place = start;
-    for value in values.iter_mut() {
-        let at = (place >> 32) as usize;
-        *value = between(reached[at], reached[at + 1], (place % (1 << 32)) as u32);
-        place += step;
+    walk_fours(reached, start, step, values);
+    for k in 4 * (values.len() / 4)..values.len() {
+        values[k] = value_between(reached, start + k as u64 * step);
     }
 }
 

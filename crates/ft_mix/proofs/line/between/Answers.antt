@@ -36,13 +36,6 @@ overflow_add-result c =
     let a = c.ranges.first in
     omega (arith, ints)
 
-pub overflow_cast-result : goal.overflow_cast-result
-overflow_cast-result c =
-    let sum = fits c in
-    let one = first_is c in
-    let a = c.ranges.first in
-    omega (arith, ints)
-
 pub returns-clause-value : goal.returns-clause-value
 unfolding sound.between
 returns-clause-value c =
