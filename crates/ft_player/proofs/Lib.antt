@@ -11,3 +11,5 @@ mod Opened
 mod Ordered
 mod Renewing
 mod ReadOn
+mod Unpacked
+mod Rows
