@@ -13,3 +13,4 @@ mod Renewing
 mod ReadOn
 mod Unpacked
 mod Rows
+mod RunWords

@@ -260,7 +260,7 @@ fn run_seat<L: Ledger>(
     what_stands_stood_before();
     a_shown_sample_is_of_its_version();
     let head = seat.head;
-    let _frames = head.frames;
+    frames_fit(head.frames);
     let word = word_for(shared, pass, seat, channel, first, steps);
     let room = (4 - first % 4) as usize;
     if out.len() <= room {
@@ -273,6 +273,12 @@ fn run_seat<L: Ledger>(
     let words = follow(shared, pass, seat, channel, from, back, steps);
     seat.words = words;
 }
+
+/// A number of frames fits its type.
+#[inline]
+fn frames_fit(frames: u32)
+    ensures { frames < 2 ^ 32 }
+{}
 
 /// The newest word of a seat.
 #[inline]
