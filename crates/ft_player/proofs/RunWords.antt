@@ -1,7 +1,7 @@
 -- What asking for one word, and for the words after it, leaves of a seat.
-use Rattle.std.proofs.Common.{◌≡◌, ◌≢◌, ℕ, ◌<◌, ◌≤◌, ◌+◌, ◌-◌, ◌*◌, ◌/◌, ◌%◌, ◌==◌, if◌then◌else◌, Bool, true, false, List, [], ◌∷◌, Option, None, Some, get_or, eq-eqb, ne_eqb, refl, ap, sym, ◌∙◌, arith, inl, inr}
+use Rattle.std.proofs.Common.{◌≡◌, ◌≢◌, ℕ, ◌<◌, ◌≤◌, ◌+◌, ◌-◌, ◌*◌, ◌%◌, ◌==◌, if◌then◌else◌, Bool, true, false, List, [], ◌∷◌, Option, None, Some, get_or, eq-eqb, ne_eqb, refl, ap, sym, ◌∙◌, arith}
 use Rattle.std.proofs.lemmas.Bool.{eqb-true}
-use Rattle.ft_types.specs.Work.{word_of, body_of, asked, asked_all, last_word, frame_bound, frame_cost, run_cost}
+use Rattle.ft_types.specs.Work.{word_of, body_of, asked, asked_all, last_word, frame_cost, run_cost}
 use Rattle.ft_shared.specs.Pass.{ReaderState}
 use Rattle.ft_image.specs.Passes.{HasReadOn, AreCounted}
 use Rattle.ft_image.specs.PassLaws.{reads_through, counted_through}

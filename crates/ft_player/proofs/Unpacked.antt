@@ -1,5 +1,5 @@
 -- Frames that are unpacked from a word.
-use Rattle.std.proofs.Common.{◌≡◌, ◌≢◌, ℕ, ◌<◌, ◌≤◌, ◌+◌, ◌-◌, ◌*◌, ◌/◌, ℤ, pos, to_z, of_z, Bool, List, ◌++◌, length, length-append, get_or, set, below_more, get_or-set_other, get_or-set_same, refl, ap, subst, sym, ◌∙◌, arith, inl, inr}
+use Rattle.std.proofs.Common.{◌≡◌, ◌≢◌, ℕ, ◌<◌, ◌≤◌, ◌+◌, ◌-◌, ℤ, pos, to_z, of_z, Bool, List, ◌++◌, length, length-append, get_or, set, below_more, get_or-set_other, get_or-set_same, refl, subst, sym, ◌∙◌, arith, inl, inr}
 use Rattle.std.specs.Int.{w16}
 use Rattle.std.specs.Prelude.{FitsSigned}
 use Rattle.std.proofs.lemmas.Bool.{cases_lt}

@@ -1,4 +1,4 @@
-use Rattle.std.proofs.Common.{rules, refl, ◌≡◌, ◌<◌, ◌+◌, ◌*◌, ◌/◌, ℕ, ℤ, Some, ap, ◌∙◌, arith}
+use Rattle.std.proofs.Common.{rules, refl, ◌≡◌, ◌<◌, ◌+◌, ◌*◌, ℕ, ℤ, Some, ap, ◌∙◌, arith}
 use Rattle.std.specs.Prelude.{FitsSigned}
 use Rattle.ft_types.specs.Valid.{width_of}
 use Rattle.ft_types.specs.Views.{frame_of}

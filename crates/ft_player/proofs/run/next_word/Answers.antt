@@ -1,4 +1,4 @@
-use Rattle.std.proofs.Common.{◌≡◌, ◌+◌, ◌*◌, ◌/◌, ℕ, ap, sym, ◌∙◌, arith}
+use Rattle.std.proofs.Common.{◌≡◌, ◌+◌, ◌*◌, ◌/◌, ℕ, ap, ◌∙◌, arith}
 use Rattle.ft_types.specs.Work.{body_of}
 use Rattle.ft_image.specs.Read.{body_at}
 use Rattle.ft_player.specs.Songs.{place_at}

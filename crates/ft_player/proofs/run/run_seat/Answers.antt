@@ -1,10 +1,10 @@
-use Rattle.std.proofs.Common.{rules, ◌≡◌, ◌<◌, ◌+◌, ◌-◌, ◌*◌, ◌/◌, ℕ, ℤ, pos, get_or, List, [], ◌∷◌, Option, Some, length, ap, sym, subst, ◌∙◌, inl, inr, arith}
+use Rattle.std.proofs.Common.{◌≡◌, ◌<◌, ◌+◌, ◌-◌, ◌*◌, ◌/◌, ℕ, ℤ, pos, get_or, [], ◌∷◌, Some, length, ap, subst, ◌∙◌, inl, arith}
 use Rattle.std.specs.Prelude.{FitsSigned}
 use Rattle.ft_types.specs.Valid.{width_of}
-use Rattle.ft_types.specs.Views.{Owned, frame_of}
+use Rattle.ft_types.specs.Views.{frame_of}
 use Rattle.ft_types.specs.Work.{word_of, last_word}
 use Rattle.ft_player.specs.declared.seat.Seat.{Seat}
-use Rattle.ft_player.specs.Seats.{owned_by, numbers_of, IsWordOf}
+use Rattle.ft_player.specs.Seats.{owned_by, numbers_of}
 use Rattle.ft_player.specs.BehindLaws.{played_read}
 use Rattle.ft_player.proofs.Seated.{reworded_word}
 use Rattle.ft_player.proofs.Unpacked.{each_behind}
