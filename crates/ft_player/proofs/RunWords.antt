@@ -12,7 +12,7 @@ use Rattle.ft_player.specs.declared.songs.Songs.{Songs}
 use Rattle.ft_player.specs.Seats.{numbers_in, numbers_of, IsSeatOf}
 use Rattle.ft_player.specs.Behind.{Stands}
 use Rattle.ft_player.specs.Asked.{HasAsked}
-use Rattle.ft_player.specs.Runs.{HasAskedAll}
+use Rattle.ft_player.specs.Runs.{HasFollowed, HasAskedAll}
 
 -- ---- numbers of words
 
@@ -74,11 +74,13 @@ asked_one first many old new seat seat_new steps steps_new some few has =
       seated = has.seated;
       rest = has.rest;
       words = has.words ∙ sym (asked_same (word_of first) (last_word first many) (numbers_of seat.words) same);
-      on = has.on;
-      counted = has.counted;
-      work = (has.work.0, omega (arith, some, has.work.1));
-      cost = costs_all (word_of first) (last_word first many) (numbers_of seat.words) steps steps_new steps_new has.cost
-          (omega arith);
+      run = record {
+        on = has.on;
+        counted = has.counted;
+        work = (has.work.0, omega (arith, some, has.work.1));
+        cost = costs_all (word_of first) (last_word first many) (numbers_of seat.words) steps steps_new steps_new has.cost
+            (omega arith);
+      };
     }
 
 pub asked_more : (first many : ℕ) (old mid new : ReaderState) (seat seat_mid : Seat) (words : KeptWords)
@@ -86,24 +88,23 @@ pub asked_more : (first many : ℕ) (old mid new : ReaderState) (seat seat_mid :
     → HasAsked first old mid seat seat_mid steps steps_mid
     → ((songs : Songs) → Stands songs new → IsSeatOf songs seat → IsSeatOf songs (record seat_mid { words = words }))
     → numbers_of words ≡ last_word first many ∷ (last_word first many - 1) ∷ []
-    → HasReadOn mid new → AreCounted mid new steps_mid steps_new → steps_mid ≤ steps_new
-    → steps_new ≤ steps_mid + (last_word first many - word_of first)
-    + 2 * (body_of (last_word first many) - body_of (word_of first))
+    → HasFollowed (word_of first) (last_word first many) mid new steps_mid steps_new
     → HasAskedAll first many old new seat (record seat_mid { words = words }) steps steps_new
-asked_more first many old mid new seat seat_mid words steps steps_mid steps_new some behind has seated numbers on counted less
-    more =
+asked_more first many old mid new seat seat_mid words steps steps_mid steps_new some behind has seated numbers followed =
     let from = word_of first in
     let to = last_word first many in
     let ne : to ≢ from = omega (arith, some, behind) in record {
       seated = seated;
       rest = ap (λ (s : Seat). record s { words = words }) has.rest;
       words = numbers ∙ sym (asked_other from to (numbers_of seat.words) ne);
-      on = reads_through old mid new has.on on;
-      counted = counted_through old mid new steps steps_mid steps_new has.counted counted;
-      work = (
-        omega (arith, has.work.0, less),
-        bounded many (to - from) (body_of to - body_of from) steps steps_mid steps_new some (few_words first many some)
-            (few_bodies from to (ordered first many some)) has.work.1 more,
-      );
-      cost = costs_all from to (numbers_of seat.words) steps steps_mid steps_new has.cost more;
+      run = record {
+        on = reads_through old mid new has.on followed.on;
+        counted = counted_through old mid new steps steps_mid steps_new has.counted followed.counted;
+        work = (
+          omega (arith, has.work.0, followed.work.0),
+          bounded many (to - from) (body_of to - body_of from) steps steps_mid steps_new some (few_words first many some)
+              (few_bodies from to (ordered first many some)) has.work.1 followed.work.1,
+        );
+        cost = costs_all from to (numbers_of seat.words) steps steps_mid steps_new has.cost followed.work.1;
+      };
     }

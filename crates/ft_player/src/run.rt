@@ -13,7 +13,7 @@ ghost use Rattle.ft_player.specs.declared.songs.Songs.{Songs};
 ghost use Rattle.ft_player.specs.Songs.{place_at};
 ghost use Rattle.ft_player.specs.Seats.{head_in, pin_in, words_in, numbers_of, owned_by, reworded, IsKept, IsWordOf, IsSeatOf, IsSeated};
 ghost use Rattle.ft_player.specs.Behind.{Stands};
-ghost use Rattle.ft_player.specs.Runs.{IsFrameIn, AreFramesIn, HasUnpacked, HasAskedAll};
+ghost use Rattle.ft_player.specs.Runs.{IsFrameIn, AreFramesIn, HasUnpacked, HasFollowed, HasRun, HasAskedAll};
 
 use crate::asking::{far_body, read_word, word_for};
 use crate::laws::what_stands_stood_before;
@@ -32,6 +32,20 @@ struct Trail {
     newest: KeptWord,
     /// The word before it, where there are two.
     older: KeptWord,
+}
+
+impl Trail {
+    /// As the kept words of a seat.
+    #[inline]
+    fn kept(self) -> KeptWords
+        ensures newest { result.newest ≡ Some self.newest }
+        ensures older { result.older ≡ Some self.older }
+    {
+        KeptWords {
+            newest: Some(self.newest),
+            older: Some(self.older),
+        }
+    }
 }
 
 /// The frame that a word holds at a place.
@@ -163,25 +177,21 @@ fn follow_whole<L: Ledger>(
     ensures many { length out.new ≡ length out.old }
     ensures number { result.newest.number ≡ from.number + length out.old / 4 }
     ensures older { 1 ≤ length out.old → result.newest.number ≡ result.older.number + 1 }
-    ensures on { HasReadOn pass.old pass.new }
-    ensures counted { AreCounted pass.old pass.new steps.old steps.new }
-    ensures work { (steps.old ≤ steps.new)
-        × (steps.new ≤ steps.old + (result.newest.number - from.number)
-        + 2 * (work_of.body_of result.newest.number - work_of.body_of from.number)) }
+    ensures followed { HasFollowed from.number result.newest.number pass.old pass.new
+        steps.old steps.new }
 {
     what_stands_stood_before();
     a_shown_sample_is_of_its_version();
+    let wide = seat.head.wide;
     let mut trail = Trail {
         newest: from,
         older: from,
     };
     for k in 0..out.len() / 4 {
         let word = next_word(shared, pass, seat, channel, trail.newest, steps);
-        unpack(seat.head.wide, word.value, word.number * 4, out, k * 4);
-        trail = Trail {
-            newest: word,
-            older: trail.newest,
-        };
+        unpack(wide, word.value, word.number * 4, out, k * 4);
+        trail.older = trail.newest;
+        trail.newest = word;
     }
     trail
 }
@@ -210,12 +220,8 @@ fn follow<L: Ledger>(
     ensures many { length out.new ≡ length out.old }
     ensures numbers { numbers_of result ≡ (from.number + (length out.old + 3) / 4)
         ∷ (from.number + (length out.old + 3) / 4 - 1) ∷ [] }
-    ensures on { HasReadOn pass.old pass.new }
-    ensures counted { AreCounted pass.old pass.new steps.old steps.new }
-    ensures work { (steps.old ≤ steps.new)
-        × (steps.new ≤ steps.old + (length out.old + 3) / 4
-        + 2 * (work_of.body_of (from.number + (length out.old + 3) / 4)
-        - work_of.body_of from.number)) }
+    ensures followed { HasFollowed from.number (from.number + (length out.old + 3) / 4)
+        pass.old pass.new steps.old steps.new }
 {
     what_stands_stood_before();
     a_shown_sample_is_of_its_version();
@@ -223,10 +229,7 @@ fn follow<L: Ledger>(
     let (front, back) = out.split_at_mut(whole);
     let trail = follow_whole(shared, pass, seat, channel, from, front, steps);
     if back.is_empty() {
-        return KeptWords {
-            newest: Some(trail.newest),
-            older: Some(trail.older),
-        };
+        return trail.kept();
     }
     let word = next_word(shared, pass, seat, channel, trail.newest, steps);
     unpack_part(seat.head.wide, word.value, word.number * 4, back);
@@ -234,6 +237,21 @@ fn follow<L: Ledger>(
         newest: Some(word),
         older: Some(trail.newest),
     }
+}
+
+/// A number of frames fits its type.
+#[inline]
+fn frames_fit(frames: u32)
+    ensures { frames < 2 ^ 32 }
+{}
+
+/// The newest word of a seat.
+#[inline]
+fn newest_of(seat: &Seat) -> KeptWord
+    requires { numbers_of seat.now.words ≢ [] }
+    ensures { seat.now.words.newest ≡ Some result }
+{
+    seat.words.newest.unwrap()
 }
 
 /// Writes the frames from a place on of a seat's sample, whose words are asked for.
@@ -274,21 +292,6 @@ fn run_seat<L: Ledger>(
     seat.words = words;
 }
 
-/// A number of frames fits its type.
-#[inline]
-fn frames_fit(frames: u32)
-    ensures { frames < 2 ^ 32 }
-{}
-
-/// The newest word of a seat.
-#[inline]
-fn newest_of(seat: &Seat) -> KeptWord
-    requires { numbers_of seat.now.words ≢ [] }
-    ensures { seat.now.words.newest ≡ Some result }
-{
-    seat.words.newest.unwrap()
-}
-
 /// Writes the frames from a place on of the sample of a channel's seat, whose words are asked for.
 fn run_one<L: Ledger>(
     shared: &Shared,
@@ -313,12 +316,8 @@ fn run_one<L: Ledger>(
     ensures rest { (words : TheWords) × (seat.new ≡ reworded words seat.old) }
     ensures words { words_in seat.new ≡ work_of.asked_all (work_of.word_of first)
         (work_of.last_word first (length out.old)) (words_in seat.old) }
-    ensures on { HasReadOn pass.old pass.new }
-    ensures counted { AreCounted pass.old pass.new steps.old steps.new }
-    ensures work { (steps.old ≤ steps.new)
-        × (steps.new ≤ steps.old + work_of.frame_bound * length out.old) }
-    ensures cost { steps.new ≤ steps.old + work_of.run_cost (work_of.word_of first)
-        (work_of.last_word first (length out.old)) (words_in seat.old) }
+    ensures run { HasRun first (length out.old) (words_in seat.old) pass.old pass.new
+        steps.old steps.new }
 {
     let Some(found) = seat else {
         return;
@@ -359,13 +358,9 @@ pub fn run_of<L: Ledger>(
     ensures words { words_in (get_or seats.new.items channel None)
         ≡ work_of.asked_all (work_of.word_of first) (work_of.last_word first (length out.old))
         (words_in (get_or seats.old.items channel None)) }
-    ensures on { HasReadOn pass.old pass.new }
-    ensures counted { AreCounted pass.old pass.new steps.old steps.new }
-    ensures work { (steps.old ≤ steps.new)
-        × (steps.new ≤ steps.old + work_of.frame_bound * length out.old) }
-    ensures cost { steps.new ≤ steps.old + work_of.run_cost (work_of.word_of first)
-        (work_of.last_word first (length out.old))
-        (words_in (get_or seats.old.items channel None)) }
+    ensures run { HasRun first (length out.old)
+        (words_in (get_or seats.old.items channel None)) pass.old pass.new
+        steps.old steps.new }
 {
     let slot = &mut seats.as_mut_slice()[usize::from(channel)];
     run_one(shared, pass, slot, channel, first, out, steps);

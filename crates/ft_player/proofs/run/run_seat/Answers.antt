@@ -5,6 +5,7 @@ use Rattle.ft_types.specs.Views.{frame_of}
 use Rattle.ft_types.specs.Work.{word_of, last_word}
 use Rattle.ft_player.specs.declared.seat.Seat.{Seat}
 use Rattle.ft_player.specs.Seats.{owned_by, numbers_of}
+use Rattle.ft_player.specs.Runs.{HasFollowed}
 use Rattle.ft_player.specs.BehindLaws.{played_read}
 use Rattle.ft_player.proofs.Seated.{reworded_word}
 use Rattle.ft_player.proofs.Unpacked.{each_behind}
@@ -35,7 +36,7 @@ returns-clause-values g c = λ songs stands seated.
     let from = c.newest_of-from.result in
     let front = c.unpack_part-2.new.out in
     let before = c.what_stands_stood_before.ensures songs mid c.follow-words.new.pass
-    (played_read mid c.follow-words.new.pass c.follow-words.ensures.on) stands in
+    (played_read mid c.follow-words.new.pass c.follow-words.ensures.followed.on) stands in
     let there = asked.seated songs before seated in
     let w = c.follow-words.ensures.words songs stands there (there.kept from (inl c.newest_of-from.ensures)) in
     let number : from.number ≡ word_of a.first
@@ -78,7 +79,7 @@ returns-clause-asked g c =
     asked_more a.first many a.pass.now mid new a.seat.now there words a.steps.now c.word_for-word.new.steps
     c.follow-words.new.steps c.requires.some (omega arith) asked
     (λ songs stands seated.
-    let before = c.what_stands_stood_before.ensures songs mid new (played_read mid new c.follow-words.ensures.on) stands in
+    let before = c.what_stands_stood_before.ensures songs mid new (played_read mid new c.follow-words.ensures.followed.on) stands in
     let kept = asked.seated songs before seated in
     let w = c.follow-words.ensures.words songs stands kept (kept.kept from (inl c.newest_of-from.ensures)) in record {
       head = kept.head;
@@ -86,5 +87,6 @@ returns-clause-asked g c =
       kept = λ word is. reworded_word songs there words word (w.0 word is);
     })
     (c.follow-words.ensures.numbers ∙ ap (λ (n : ℕ). n ∷ (n - 1) ∷ []) last)
-    c.follow-words.ensures.on c.follow-words.ensures.counted c.follow-words.ensures.work.0
-    (omega (arith, number, last))
+    (subst (λ (n : ℕ). HasFollowed n (last_word a.first many) mid new c.word_for-word.new.steps c.follow-words.new.steps) number
+    (subst (λ (n : ℕ). HasFollowed from.number n mid new c.word_for-word.new.steps c.follow-words.new.steps) last
+    c.follow-words.ensures.followed))

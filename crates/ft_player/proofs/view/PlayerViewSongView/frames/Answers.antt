@@ -18,8 +18,8 @@ invariant_of-self g c =
     let channel = c.args.channel in
     let inside : channel < length seats
     = subst (λ (n : ℕ). c.args.channel < n) (length-map seats (is_some {T = Seat})) c.requires.channel in
-    let is = c.run_of.ensures.on.is in
-    let on = played_read old.pass.now c.run_of.new.pass c.run_of.ensures.on in
+    let is = c.run_of.ensures.run.on.is in
+    let on = played_read old.pass.now c.run_of.new.pass c.run_of.ensures.run.on in
     let words = c.run_of.ensures.rest.0 in record {
       here = ap (λ (x : ReaderState). x.register) is ∙ old.here;
       held = ap (λ (x : ReaderState). x.notes.held) is ∙ old.held;
@@ -36,7 +36,7 @@ invariant_of-self g c =
 pub returns-clause-shows : goal.returns-clause-shows
 returns-clause-shows g c = λ w stands.
     let old = c.args.self.now in
-    let on = played_read old.pass.now c.run_of.new.pass c.run_of.ensures.on in (
+    let on = played_read old.pass.now c.run_of.new.pass c.run_of.ensures.run.on in (
       c.what_stands_stood_before.ensures w old.pass.now c.run_of.new.pass on stands,
       ap (λ (l : List (Option Owned)). record { version = old.version; song = song_at w old.version; kept = l })
           (same_at (owned_by w) c.run_of.ensures.rest.0 old.seats.now.items c.run_of.new.seats.items c.args.channel c.run_of.ensures.rest.1
@@ -46,7 +46,7 @@ returns-clause-shows g c = λ w stands.
 pub returns-clause-values : goal.returns-clause-values
 returns-clause-values g c = λ w stands k lt.
     let old = c.args.self.now in
-    let on = played_read old.pass.now c.run_of.new.pass c.run_of.ensures.on in
+    let on = played_read old.pass.now c.run_of.new.pass c.run_of.ensures.run.on in
     let before = c.what_stands_stood_before.ensures w old.pass.now c.run_of.new.pass on stands in
     c.run_of.ensures.values w stands (old.seated w c.args.channel before) k lt
     ∙ ap (λ (o : Option Owned). frame_of o (c.args.first + k)) (sym (owned_at w old.seats.now.items c.args.channel))
