@@ -11,3 +11,6 @@ mod Opened
 mod Ordered
 mod Renewing
 mod ReadOn
+mod Unpacked
+mod Rows
+mod RunWords

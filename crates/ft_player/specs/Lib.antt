@@ -6,3 +6,4 @@ pub mod Bounds
 pub mod Player
 pub mod Inner
 pub mod Asked
+pub mod Runs

@@ -32,7 +32,7 @@ use std::sync::ledger::Ledger;
 /// The segment of the body of a frame of a seat's sample, as the sample's words say.
 #[cold]
 #[inline(never)]
-fn far_body<L: Ledger>(
+pub fn far_body<L: Ledger>(
     shared: &Shared,
     pass: &mut ReaderPass,
     seat: &Seat,
@@ -90,7 +90,7 @@ fn body_for<L: Ledger>(
 
 /// A word of frames of a seat's sample, from the segment of its body.
 #[inline]
-fn read_word<L: Ledger>(
+pub fn read_word<L: Ledger>(
     shared: &Shared,
     pass: &mut ReaderPass,
     seat: &Seat,
@@ -186,7 +186,7 @@ fn bring<L: Ledger>(
 
 /// What the word of a frame says, which is the newest one from now on.
 #[inline]
-fn word_for<L: Ledger>(
+pub fn word_for<L: Ledger>(
     shared: &Shared,
     pass: &mut ReaderPass,
     seat: &mut Seat,

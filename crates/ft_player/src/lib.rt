@@ -7,6 +7,7 @@ mod laws;
 mod player;
 mod ranges;
 mod reading;
+mod run;
 mod seat;
 mod seats;
 mod songs;

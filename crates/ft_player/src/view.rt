@@ -11,6 +11,7 @@ ghost use Rattle.ft_player.specs.Behind.{Holds, Stands, AreSeated, shown_by, Has
 use crate::asking::ask;
 use crate::laws::what_stands_stood_before;
 use crate::reading::{held_cell, held_envelope, held_head, held_order, held_rows, held_shape};
+use crate::run::run_of;
 use crate::seat::Seat;
 use crate::songs::Songs;
 use crate::sounding::{begun_seat, head_of, sit};
@@ -181,6 +182,19 @@ impl<'a, 'b, 'c, 'd, L: Ledger> SongView for PlayerView<'a, 'b, 'c, 'd, L> {
             place,
             self.steps,
         )
+    }
+
+    fn frames(&mut self, channel: u8, first: u32, out: &mut [i16]) {
+        what_stands_stood_before();
+        run_of(
+            self.shared,
+            self.pass,
+            self.seats,
+            channel,
+            first,
+            out,
+            self.steps,
+        );
     }
 
     fn stop(&mut self, channel: u8) {
