@@ -6,7 +6,8 @@
 #
 #     tools/peers.sh [SONG..]
 #
-# XMSTUDIO=PROGRAM measures this program in the place of the proved one.
+# XMSTUDIO=PROGRAM measures this program in the place of the proved one. It gets its memory in large pages, as
+# ./xmstudio has it do.
 set -u
 here=$(cd "$(dirname "$0")/.." && pwd)
 work=$(mktemp -d)
@@ -73,7 +74,8 @@ for song in songs:
     by_peers = {name: rendered(words(song)) for name, words in peers.items()}
     lengths = [it[0] for it in by_peers.values() if it]
     seconds = min(1200, max(1, round(lengths[0] if lengths else 60)))
-    ours = rendered([program, "step", song, wav, work + "/ledger", "--seconds=%d" % seconds])
+    large = ["env", "GLIBC_TUNABLES=glibc.malloc.hugetlb=1"]
+    ours = rendered(large + [program, "step", song, wav, work + "/ledger", "--seconds=%d" % seconds])
     name = os.path.basename(song)
     print("%-14s %8d %10s" % (name, seconds, cell(ours)) + "".join(" %10s" % cell(it) for it in by_peers.values()))
 PYTHON

@@ -1,12 +1,12 @@
 -- What is mixed, the sums of both sides, and what mixing leaves.
-use Rattle.std.specs.Prelude.{ℕ, ◌+◌, ◌-◌, ◌*◌, ◌^◌, ◌/◌, ◌==◌, ◌&&◌, ◌<◌, Bool, nat_le, if◌then◌else◌, FitsSigned, ◌≡◌, ◌≢◌, ◌≤ℤ◌, ◌-ℤ◌, ℤ, pos, true, List, [], ◌∷◌, Option, get_or}
+use Rattle.std.specs.Prelude.{ℕ, ◌+◌, ◌-◌, ◌*◌, ◌^◌, ◌/◌, ◌==◌, ◌&&◌, ◌<◌, Bool, nat_le, if◌then◌else◌, FitsSigned, ◌≡◌, ◌≢◌, ◌≤ℤ◌, ◌+ℤ◌, ◌-ℤ◌, ℤ, pos, true, List, [], ◌∷◌, Option, get_or}
 use Rattle.std.specs.Int.{w16}
 use Rattle.ft_types.specs.declared.voice.SampleHead.{SampleHead}
 use Rattle.ft_types.specs.declared.voice.Voice.{Voice}
 use Rattle.ft_types.specs.Views.{Owned, Shown}
 use Rattle.ft_types.specs.Work.{frame_bound, word_of, body_of}
 use Rattle.ft_replay.specs.Range.{IsVoiceInRange}
-use Rattle.ft_replay.specs.Sound.{place_of, value_in, value_at, left_of, right_of, voices_sum, clipped, is_ended}
+use Rattle.ft_replay.specs.Sound.{place_of, value_in, value_at, gained, left_of, right_of, voices_sum, clipped, is_ended}
 use Rattle.ft_mix.specs.declared.piece.Piece.{Piece}
 
 -- ---- what is asked of a view
@@ -54,6 +54,12 @@ pub record IsLoud (voices : ℕ) (sum : ℤ) : Type 0 where
 
 abbrev pub AreLoud : ℕ → ℕ → List ℤ → Type 0
 AreLoud voices many sums = (k : ℕ) → k < many → IsLoud voices (get_or sums k (pos 0))
+
+-- the first so many values were added to sums by a gain
+pub record HaveAdded (gain : ℕ) (values old new : List ℤ) (many : ℕ) : Type 0 where
+  pub sums : (k : ℕ) → k < many → get_or new k (pos 0)
+      ≡ (get_or old k (pos 0) +ℤ gained (get_or values k (pos 0)) gain)
+  pub loud : (n : ℕ) → AreLoud n many old → AreLoud (n + 1) many new
 
 -- so many sums of both sides, from a frame of a tick on
 pub record AreSums (first : ℕ) (kept : List (Option Owned)) (voices : List Voice) (many : ℕ)

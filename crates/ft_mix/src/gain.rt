@@ -30,19 +30,29 @@ fn added(sum: i32, value: i32, gain: u32) -> i32
     sum + gained(value, gain)
 }
 
-/// Adds values, each of -32,768 to 32,767, to the sums of a side by its gain, of 65,536.
-pub fn add_values(values: &[i32], gain: u32, sums: &mut [i32])
-    requires many { length values.now ≡ length sums.old }
-    requires gain { gain ≤ 65536 }
+/// Adds values, each of -32,768 to 32,767, to the sums of both sides by their gains, each of 65,536.
+pub fn add_values(
+    values: &[i32],
+    left_gain: u32,
+    right_gain: u32,
+    left: &mut [i32],
+    right: &mut [i32],
+)
+    requires many { length values.now ≡ length left.old }
+    requires both { length right.old ≡ length left.old }
+    requires left_gain { left_gain ≤ 65536 }
+    requires right_gain { right_gain ≤ 65536 }
     requires range { mixing.Fit16 (length values.now) values.now }
-    requires room { mixing.AreLoud 31 (length sums.old) sums.old }
-    ensures sums { (k : ℕ) → k < length sums.old → get_or sums.new k (pos 0)
-        ≡ (get_or sums.old k (pos 0) +ℤ sound.gained (get_or values.now k (pos 0)) gain) }
-    ensures loud { (n : ℕ) → mixing.AreLoud n (length sums.old) sums.old
-        → mixing.AreLoud (n + 1) (length sums.old) sums.new }
-    ensures many { length sums.new ≡ length sums.old }
+    requires left_room { mixing.AreLoud 31 (length left.old) left.old }
+    requires right_room { mixing.AreLoud 31 (length left.old) right.old }
+    ensures left { mixing.HaveAdded left_gain values.now left.old left.new (length left.old) }
+    ensures right { mixing.HaveAdded right_gain values.now right.old right.new (length left.old) }
+    ensures many { length left.new ≡ length left.old }
+    ensures both { length right.new ≡ length right.old }
 {
-    for k in 0..sums.len() {
-        sums[k] = added(sums[k], values[k], gain);
+    for k in 0..left.len() {
+        let value = values[k];
+        left[k] = added(left[k], value, left_gain);
+        right[k] = added(right[k], value, right_gain);
     }
 }

@@ -55,6 +55,5 @@ pub fn add_voice<V: SongView>(
         return;
     }
     read_values(view, voice, first, reached, values);
-    add_values(values, voice.left, left);
-    add_values(values, voice.right, right);
+    add_values(values, voice.left, voice.right, left, right);
 }
