@@ -3,7 +3,6 @@ use Rattle.std.proofs.Common.{◌≡◌, ◌≢◌, ℕ, ◌<◌, ◌≤◌, ◌
 use Rattle.std.proofs.lemmas.Bool.{eqb-true}
 use Rattle.ft_types.specs.Work.{word_of, body_of, asked, asked_all, last_word, frame_cost, run_cost}
 use Rattle.ft_shared.specs.Pass.{ReaderState}
-use Rattle.ft_image.specs.Passes.{HasReadOn, AreCounted}
 use Rattle.ft_image.specs.PassLaws.{reads_through, counted_through}
 use Rattle.ft_player.specs.declared.seat.KeptWord.{KeptWord}
 use Rattle.ft_player.specs.declared.seat.KeptWords.{KeptWords}

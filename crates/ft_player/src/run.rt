@@ -1,6 +1,6 @@
 //! Frames that stand in a row, which channels ask for at once.
 
-ghost use Rattle.std.specs.Prelude.{◌≡◌, ◌≢◌, ◌≤◌, ◌<◌, ◌+◌, ◌-◌, ◌*◌, ◌/◌, ◌%◌, ◌^◌, ◌∷◌, [], ℕ, true, None, Some, length, get_or, set, FitsSigned};
+ghost use Rattle.std.specs.Prelude.{◌≡◌, ◌≢◌, ◌≤◌, ◌<◌, ◌+◌, ◌-◌, ◌*◌, ◌/◌, ◌%◌, ◌^◌, ◌∷◌, [], ℕ, None, Some, length, get_or, set};
 ghost use Rattle.ft_types.specs.declared.voice.SampleHead.{SampleHead as Head};
 ghost use Rattle.ft_types.specs.Views.{AreFramesFrom, FitWidth};
 ghost use Rattle.ft_types.specs.Work as work_of;
