@@ -1,5 +1,5 @@
 -- What is mixed, the sums of both sides, and what mixing leaves.
-use Rattle.std.specs.Prelude.{ℕ, ◌+◌, ◌-◌, ◌*◌, ◌^◌, ◌/◌, ◌==◌, ◌&&◌, ◌<◌, Bool, nat_le, if◌then◌else◌, FitsSigned, ◌≡◌, ◌≢◌, ◌≤ℤ◌, ◌+ℤ◌, ◌-ℤ◌, ℤ, pos, true, List, [], ◌∷◌, Option, get_or}
+use Rattle.std.specs.Prelude.{ℕ, ◌+◌, ◌-◌, ◌*◌, ◌^◌, ◌/◌, ◌==◌, ◌&&◌, ◌<◌, ◌≤◌, Bool, nat_le, if◌then◌else◌, FitsSigned, ◌≡◌, ◌≢◌, ◌≤ℤ◌, ◌+ℤ◌, ◌-ℤ◌, ℤ, pos, true, false, List, [], ◌∷◌, Option, Some, get_or}
 use Rattle.std.specs.Int.{w16}
 use Rattle.ft_types.specs.declared.voice.SampleHead.{SampleHead}
 use Rattle.ft_types.specs.declared.voice.Voice.{Voice}
@@ -8,6 +8,7 @@ use Rattle.ft_types.specs.Work.{frame_bound, word_of, body_of}
 use Rattle.ft_replay.specs.Range.{IsVoiceInRange}
 use Rattle.ft_replay.specs.Sound.{place_of, value_in, value_at, gained, left_of, right_of, voices_sum, clipped, is_ended}
 use Rattle.ft_mix.specs.declared.piece.Piece.{Piece}
+use Rattle.ft_mix.specs.declared.piece.Pieces.{Pieces}
 
 -- ---- what is asked of a view
 
@@ -29,6 +30,20 @@ Tells {W = W} shows shown view view_after answer =
 -- the place of the k-th frame of a piece, which goes up or down
 abbrev pub place_in : Piece → ℕ → ℕ
 place_in piece k = if piece.down then piece.place - k else piece.place + k
+
+-- a piece of a looped sample, which a voice reaches from a place on that counts on through the turns
+pub record IsPieceOf (head : SampleHead) (at : ℕ) (piece : Piece) : Type 0 where
+  pub places : (k : ℕ) → k < piece.frames → place_of head (at + k) ≡ Some (place_in piece k)
+  pub some : 1 ≤ piece.frames
+  pub up : piece.down ≡ false → piece.place + piece.frames ≤ head.frames
+  pub down : piece.down ≡ true → (piece.place < head.frames) × (piece.frames ≤ piece.place + 1)
+
+-- one piece, or two, in which so many frames lie from a place on
+pub record ArePiecesOf (head : SampleHead) (at many : ℕ) (pieces : Pieces) : Type 0 where
+  pub first : IsPieceOf head at pieces.first
+  pub second : pieces.first.frames < many
+      → IsPieceOf head (at + pieces.first.frames) pieces.second
+      × (many ≤ pieces.first.frames + pieces.second.frames)
 
 -- the values of so many frames that are reached one after the other
 abbrev pub AreReached : SampleHead → Option Owned → ℕ → ℕ → List ℤ → Type 0
@@ -106,6 +121,10 @@ block_cost frames voice = cost_by (5 + (frames + 3) / 4) (2 * frame_bound * fram
 abbrev pub way_cost : ℕ → ℕ → ℕ
 way_cost from to =
     3 + (word_of to - word_of from) + 2 * (body_of (word_of to) - body_of (word_of from))
+
+-- so many frames of one piece
+abbrev pub piece_cost : ℕ → ℕ
+piece_cost frames = 6 + frames / 4 + 2 * (frames / 1024)
 
 -- ---- what mixing leaves
 

@@ -1,8 +1,7 @@
 //! How far a voice goes straight on in its sample.
 
-ghost use Rattle.std.specs.Prelude.{◌≡◌, ◌≤◌, ◌<◌, ◌+◌, ◌^◌, ℕ, Some, true, false};
+ghost use Rattle.std.specs.Prelude.{◌≤◌, ◌<◌, ◌^◌, IfSome};
 ghost use Rattle.ft_types.specs.Valid.{IsValidHead};
-ghost use Rattle.ft_replay.specs.Sound as sound;
 ghost use Rattle.ft_mix.specs.Mixing as mixing;
 
 use crate::reach::{end, turn};
@@ -25,12 +24,7 @@ pub struct Piece {
 pub fn piece_at(head: &SampleHead, at: u32) -> Piece
     requires head { IsValidHead head.now }
     requires looped { 1 ≤ head.now.loop_kind }
-    ensures places { (k : ℕ) → k < result.frames
-        → sound.place_of head.now (at + k) ≡ Some (mixing.place_in result k) }
-    ensures some { 1 ≤ result.frames }
-    ensures up { result.down ≡ false → result.place + result.frames ≤ head.now.frames }
-    ensures down { result.down ≡ true
-        → (result.place < head.now.frames) × (result.frames ≤ result.place + 1) }
+    ensures { mixing.IsPieceOf head.now at result }
 {
     let end = end(head);
     if at < end {
@@ -55,4 +49,37 @@ pub fn piece_at(head: &SampleHead, at: u32) -> Piece
         frames: back,
         down: true,
     }
+}
+
+/// Two pieces of a looped sample, one after the other. Where the first is enough, the second says
+/// nothing.
+#[derive(Clone, Copy)]
+pub struct Pieces {
+    /// The first of them.
+    pub first: Piece,
+    /// The one behind it.
+    pub second: Piece,
+}
+
+/// The pieces in which so many frames lie that a voice reaches from `at` on; none where they are more
+/// than two.
+pub fn pieces_of(head: &SampleHead, at: u32, many: u32) -> Option<Pieces>
+    requires head { IsValidHead head.now }
+    requires looped { 1 ≤ head.now.loop_kind }
+    requires at { at < 2 ^ 24 }
+    requires many { many < 2 ^ 24 }
+    ensures { IfSome result (mixing.ArePiecesOf head.now at many) }
+{
+    let first = piece_at(head, at);
+    if first.frames >= many {
+        return Some(Pieces {
+            first,
+            second: first,
+        });
+    }
+    let second = piece_at(head, at + first.frames);
+    if first.frames + second.frames < many {
+        return None;
+    }
+    Some(Pieces { first, second })
 }

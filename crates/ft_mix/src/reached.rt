@@ -1,13 +1,13 @@
 //! The values that a voice reaches, one after the other.
 
-ghost use Rattle.std.specs.Prelude.{◌≡◌, ◌≤◌, ◌<◌, ◌+◌, ◌-◌, ◌*◌, ◌^◌, ℕ, pos, None, Some, length, get_or};
+ghost use Rattle.std.specs.Prelude.{◌≡◌, ◌≤◌, ◌<◌, ◌+◌, ◌-◌, ◌*◌, ◌/◌, ◌^◌, ℕ, pos, None, Some, true, false, length, get_or};
 ghost use Rattle.ft_types.specs.Valid.{IsValidHead};
 ghost use Rattle.ft_types.specs.Views.{FitWidth};
 ghost use Rattle.ft_types.specs.Work as work_of;
 ghost use Rattle.ft_replay.specs.Sound as sound;
 ghost use Rattle.ft_mix.specs.Mixing as mixing;
 
-use crate::piece::piece_at;
+use crate::piece::{Piece, Pieces, piece_at};
 use ft_types::{SampleHead, SongView};
 
 /// Makes values of raw frames: one of 8 bits counts 256 times.
@@ -78,6 +78,7 @@ fn read_down<V: SongView>(
     ensures keeps { (c : ℕ) (h : SampleHead) → V.keeps view.old c h → V.keeps view.new c h }
     ensures work { (V.work view.old ≤ V.work view.new)
         × (V.work view.new ≤ V.work view.old + work_of.frame_bound * length values.old) }
+    ensures cost { V.work view.new ≤ V.work view.old + mixing.piece_cost (length values.old) }
     ensures same { V.same view.old view.new }
 {
     let lowest = place + 1 - values.len() as u32;
@@ -133,6 +134,74 @@ fn read_to_end<V: SongView>(
     silence(values, many);
 }
 
+/// The first values of a piece, as many as there is room for.
+fn read_part<V: SongView>(
+    view: &mut V,
+    channel: u8,
+    head: &SampleHead,
+    piece: Piece,
+    values: &mut [i16],
+)
+    requires channel { channel < length (V.holds view.old) }
+    requires kept { V.keeps view.old channel head.now }
+    requires head { IsValidHead head.now }
+    requires some { 1 ≤ length values.old }
+    requires few { length values.old ≤ piece.frames }
+    requires up { piece.down ≡ false → piece.place + piece.frames ≤ head.now.frames }
+    requires down { piece.down ≡ true
+        → (piece.place < head.now.frames) × (piece.frames ≤ piece.place + 1) }
+    ensures values { mixing.Tells V.shows V.shown view.old view.new (λ shown.
+        (k : ℕ) → k < length values.old → get_or values.new k (pos 0) ≡ sound.value_in head.now
+        (get_or shown.kept channel None) (Some (mixing.place_in piece k))) }
+    ensures range { mixing.Fit16 (length values.old) values.new }
+    ensures many { length values.new ≡ length values.old }
+    ensures holds { V.holds view.new ≡ V.holds view.old }
+    ensures keeps { (c : ℕ) (h : SampleHead) → V.keeps view.old c h → V.keeps view.new c h }
+    ensures work { (V.work view.old ≤ V.work view.new)
+        × (V.work view.new ≤ V.work view.old + work_of.frame_bound * length values.old) }
+    ensures cost { V.work view.new ≤ V.work view.old + mixing.piece_cost (length values.old) }
+    ensures same { V.same view.old view.new }
+{
+    if piece.down {
+        read_down(view, channel, head, piece.place, values);
+        return;
+    }
+    read_up(view, channel, head, piece.place, values);
+}
+
+/// The values from `at` on of a looped sample, in these two pieces.
+pub fn read_pieces<V: SongView>(
+    view: &mut V,
+    channel: u8,
+    head: &SampleHead,
+    at: u32,
+    pieces: Pieces,
+    values: &mut [i16],
+)
+    requires channel { channel < length (V.holds view.old) }
+    requires kept { V.keeps view.old channel head.now }
+    requires head { IsValidHead head.now }
+    requires some { 1 ≤ length values.old }
+    requires pieces { mixing.ArePiecesOf head.now at (length values.old) pieces }
+    ensures values { mixing.Tells V.shows V.shown view.old view.new (λ shown. mixing.AreReached
+        head.now (get_or shown.kept channel None) at (length values.old) values.new) }
+    ensures range { mixing.Fit16 (length values.old) values.new }
+    ensures many { length values.new ≡ length values.old }
+    ensures holds { V.holds view.new ≡ V.holds view.old }
+    ensures keeps { (c : ℕ) (h : SampleHead) → V.keeps view.old c h → V.keeps view.new c h }
+    ensures work { (V.work view.old ≤ V.work view.new) × (V.work view.new
+        ≤ V.work view.old + (12 + length values.old / 4 + 2 * (length values.old / 1024))) }
+    ensures same { V.same view.old view.new }
+{
+    let front = pieces.first.frames as usize;
+    if front >= values.len() {
+        read_part(view, channel, head, pieces.first, values);
+        return;
+    }
+    read_part(view, channel, head, pieces.first, &mut values[..front]);
+    read_part(view, channel, head, pieces.second, &mut values[front..]);
+}
+
 /// The first values from `at` on of a looped sample, as far as its frames stand in a row. It answers
 /// how many they are.
 fn read_piece<V: SongView>(
@@ -161,12 +230,7 @@ fn read_piece<V: SongView>(
 {
     let piece = piece_at(head, at);
     let many = values.len().min(piece.frames as usize);
-    let part = &mut values[..many];
-    if piece.down {
-        read_down(view, channel, head, piece.place, part);
-    } else {
-        read_up(view, channel, head, piece.place, part);
-    }
+    read_part(view, channel, head, piece, &mut values[..many]);
     many
 }
 

@@ -1,6 +1,6 @@
 //! The values of a voice.
 
-ghost use Rattle.std.specs.Prelude.{◌≡◌, ◌≤◌, ◌<◌, ◌+◌, ◌*◌, ◌/◌, ◌^◌, ℕ, pos, None, Option, FitsSigned, length, get_or};
+ghost use Rattle.std.specs.Prelude.{◌≡◌, ◌≤◌, ◌<◌, ◌+◌, ◌*◌, ◌/◌, ◌^◌, ℕ, pos, None, Option, true, false, FitsSigned, length, get_or};
 ghost use Rattle.std.specs.Int.{w16};
 ghost use Rattle.ft_types.specs.declared.voice.SampleHead.{SampleHead as Head};
 ghost use Rattle.ft_types.specs.Valid.{IsValidHead};
@@ -10,8 +10,9 @@ ghost use Rattle.ft_replay.specs.Sound as sound;
 ghost use Rattle.ft_mix.specs.Mixing as mixing;
 
 use crate::line::between;
+use crate::piece::pieces_of;
 use crate::reach::value_of;
-use crate::reached::read_reached;
+use crate::reached::{read_pieces, read_reached};
 use ft_types::{SampleHead, SongView, Voice};
 
 /// The value at a place between some that are reached. Places count from the first of them, and 2^32
@@ -34,7 +35,7 @@ fn value_between(reached: &[i16], place: u64) -> i32
 fn walk_four(reached: &[i16], place: u64, step: u64, values: &mut [i32], k: usize)
     requires room { k + 4 ≤ length values.old }
     requires place { place < 2 ^ 62 }
-    requires step { step ≤ 2 ^ 33 }
+    requires step { step ≤ 2 ^ 35 }
     requires reached { (place + 3 * step) / 2 ^ 32 + 1 < length reached.now }
     requires range { mixing.Fit16 (length reached.now) reached.now }
     ensures values { (head : Head) (owned : Option Owned) (at position : ℕ)
@@ -57,7 +58,7 @@ fn walk_four(reached: &[i16], place: u64, step: u64, values: &mut [i32], k: usiz
 /// as a multiple of four.
 fn walk_fours(reached: &[i16], start: u64, step: u64, values: &mut [i32])
     requires start { start < 2 ^ 32 }
-    requires step { step ≤ 2 ^ 33 }
+    requires step { step ≤ 2 ^ 35 }
     requires few { length values.old ≤ 3751 }
     requires reached { (k : ℕ) → k < length values.old
         → (start + k * step) / 2 ^ 32 + 1 < length reached.now }
@@ -79,7 +80,7 @@ fn walk_fours(reached: &[i16], start: u64, step: u64, values: &mut [i32])
 /// The same, all of them.
 fn walk(reached: &[i16], start: u64, step: u64, values: &mut [i32])
     requires start { start < 2 ^ 32 }
-    requires step { step ≤ 2 ^ 33 }
+    requires step { step ≤ 2 ^ 35 }
     requires few { length values.old ≤ 3751 }
     requires reached { (k : ℕ) → k < length values.old
         → (start + k * step) / 2 ^ 32 + 1 < length reached.now }
@@ -112,7 +113,7 @@ fn read_walk<V: SongView>(
     requires step { voice.step ≤ 2 ^ 33 }
     requires some { 1 ≤ length values.old }
     requires few { length values.old ≤ 256 }
-    requires room { length reached.old ≡ 512 }
+    requires room { length reached.old ≡ 2048 }
     ensures values { mixing.Tells V.shows V.shown view.old view.new (λ shown. mixing.AreValues
         voice.head (get_or shown.kept voice.channel None) position voice.step
         (length values.old) values.new) }
@@ -137,6 +138,85 @@ fn read_walk<V: SongView>(
         (position >> 32) as u32,
         reached,
     );
+    walk(reached, start, voice.step, values);
+}
+
+/// Reads the frames that a voice reaches from `at` on, where they lie in few pieces, and says so; or reads
+/// none.
+fn read_ahead<V: SongView>(
+    view: &mut V,
+    channel: u8,
+    head: &SampleHead,
+    at: u32,
+    reached: &mut [i16],
+) -> bool
+    requires channel { channel < length (V.holds view.old) }
+    requires kept { V.keeps view.old channel head.now }
+    requires head { IsValidHead head.now }
+    requires at { at < 2 ^ 24 }
+    requires some { 1 ≤ length reached.old }
+    requires few { length reached.old < 2 ^ 24 }
+    ensures values { result ≡ true → mixing.Tells V.shows V.shown view.old view.new (λ shown.
+        mixing.AreReached head.now (get_or shown.kept channel None) at (length reached.old)
+        reached.new) }
+    ensures range { result ≡ true → mixing.Fit16 (length reached.old) reached.new }
+    ensures rests { result ≡ false → view.new ≡ view.old }
+    ensures many { length reached.new ≡ length reached.old }
+    ensures holds { V.holds view.new ≡ V.holds view.old }
+    ensures keeps { (c : ℕ) (h : Head) → V.keeps view.old c h → V.keeps view.new c h }
+    ensures work { (V.work view.old ≤ V.work view.new) × (V.work view.new
+        ≤ V.work view.old + (12 + length reached.old / 4 + 2 * (length reached.old / 1024))) }
+    ensures same { V.same view.old view.new }
+{
+    if head.loop_kind == 0 {
+        read_reached(view, channel, head, at, reached);
+        return true;
+    }
+    let Some(pieces) = pieces_of(head, at, reached.len() as u32) else {
+        return false;
+    };
+    read_pieces(view, channel, head, at, pieces, reached);
+    true
+}
+
+/// The values of a voice from a position on, where it moves by more than two frames at once, and by at most
+/// eight: all frames that it reaches are read first where they lie in few pieces, and else each value is
+/// read by itself.
+fn read_far<V: SongView>(
+    view: &mut V,
+    voice: Voice,
+    position: u64,
+    reached: &mut [i16],
+    values: &mut [i32],
+)
+    requires channel { voice.channel < length (V.holds view.old) }
+    requires kept { V.keeps view.old voice.channel voice.head }
+    requires head { IsValidHead voice.head }
+    requires position { position + length values.old * voice.step < 2 ^ 56 }
+    requires step { voice.step ≤ 2 ^ 35 }
+    requires some { 8 ≤ length values.old }
+    requires few { length values.old ≤ 256 }
+    requires room { length reached.old ≡ 2048 }
+    ensures values { mixing.Tells V.shows V.shown view.old view.new (λ shown. mixing.AreValues
+        voice.head (get_or shown.kept voice.channel None) position voice.step
+        (length values.old) values.new) }
+    ensures range { mixing.Fit16 (length values.old) values.new }
+    ensures many { length values.new ≡ length values.old }
+    ensures room { length reached.new ≡ length reached.old }
+    ensures holds { V.holds view.new ≡ V.holds view.old }
+    ensures keeps { (c : ℕ) (h : Head) → V.keeps view.old c h → V.keeps view.new c h }
+    ensures work { (V.work view.old ≤ V.work view.new) × (V.work view.new
+        ≤ V.work view.old + 2 * work_of.frame_bound * length values.old) }
+    ensures same { V.same view.old view.new }
+{
+    let start = position % (1 << 32);
+    let last = start + (values.len() as u64 - 1) * voice.step;
+    let reached = &mut reached[..(last >> 32) as usize + 2];
+    let at = (position >> 32) as u32;
+    if !read_ahead(view, voice.channel, &voice.head, at, reached) {
+        read_leaps(view, voice, position, values);
+        return;
+    }
     walk(reached, start, voice.step, values);
 }
 
@@ -198,7 +278,7 @@ pub fn read_values<V: SongView>(
     requires some { 1 ≤ length values.old }
     requires few { length values.old ≤ 256 }
     requires frames { first + length values.old ≤ 3751 }
-    requires room { length reached.old ≡ 512 }
+    requires room { length reached.old ≡ 2048 }
     ensures values { mixing.Tells V.shows V.shown view.old view.new (λ shown. mixing.AreValues
         voice.head (get_or shown.kept voice.channel None) (voice.pos + first * voice.step)
         voice.step (length values.old) values.new) }
@@ -216,6 +296,10 @@ pub fn read_values<V: SongView>(
     let position = voice.pos + u64::from(first) * voice.step;
     if voice.step <= 1 << 33 {
         read_walk(view, voice, position, reached, values);
+        return;
+    }
+    if voice.step <= 1 << 35 && values.len() >= 8 {
+        read_far(view, voice, position, reached, values);
         return;
     }
     read_leaps(view, voice, position, values);
