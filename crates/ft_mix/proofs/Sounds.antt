@@ -1,11 +1,11 @@
 -- What is written frame by frame is the sound.
-use Rattle.std.proofs.Common.{◌≡◌, ℕ, zero, suc, ◌+◌, ◌*◌, ◌≤◌, ◌<◌, ℤ, pos, Option, List, [], ◌∷◌, ◌++◌, length, get_or, take, add-one, subst, ◌-◌, Bool, true, false, ltb, refl, ap, sym, ◌∙◌, arith}
-use Rattle.std.proofs.lemmas.Bool.{ltb-true, ltb-false}
+use Rattle.std.proofs.Common.{◌≡◌, ℕ, zero, suc, ◌+◌, ◌*◌, ◌≤◌, ◌<◌, ℤ, pos, Option, List, [], ◌∷◌, ◌++◌, length, get_or, take, add-one, subst, ◌-◌, refl, ap, sym, ◌∙◌, arith}
 use Rattle.std.proofs.lemmas.List.{take_all}
 use Rattle.ft_types.specs.declared.voice.Voice.{Voice}
 use Rattle.ft_types.specs.Views.{Owned}
 use Rattle.ft_replay.specs.Sound.{sound_of_voices, frame_of_voices, voices_sum, left_of, right_of, clipped}
 use Rattle.ft_mix.specs.Mixing.{IsFrame, AreFrames}
+use Rattle.ft_mix.proofs.Costs.{by_lt}
 
 take_two : (xs : List ℤ) (n : ℕ) → suc n < length xs
     → take (suc (suc n)) xs ≡ take n xs ++ get_or xs n (pos 0) ∷ get_or xs (suc n) (pos 0) ∷ []
@@ -42,13 +42,6 @@ sound_is kept voices frames out many s =
 
 -- ---- block by block
 
-by_lt : {P : Type 0} (a b : ℕ) → (a < b → P) → (b ≤ a → P) → P
-by_lt {P} a b f g = by (ltb a b) refl
-  where
-    by : (t : Bool) → ltb a b ≡ t → P
-    by true e = f (ltb-true a b e)
-    by false e = g (ltb-false a b e)
-
 -- a frame before those that are written stays
 same_frame : (kept : List (Option Owned)) (voices : List Voice) (k first : ℕ) (out out_after : List ℤ) → k < first
     → ((j : ℕ) → j < 2 * first → get_or out_after j (pos 0) ≡ get_or out j (pos 0))
@@ -74,25 +67,25 @@ more_frames kept voices first many out out_after are same new k lt =
     subst (λ (n : ℕ). IsFrame (voices_sum (left_of n) kept voices) (voices_sum (right_of n) kept voices) n out_after)
     here (new (k - first) (omega arith)))
 
--- the end of a block of at most 256 frames
-pub block_end : (first many frames n : ℕ) → many ≤ 256 → first + many ≤ frames → (many < 256 → first + many ≡ frames)
-    → n ≤ first + 256 → (n < first + 256 → n ≡ frames) → n ≤ frames → n ≡ first + many
+-- the end of a block of at most 512 frames
+pub block_end : (first many frames n : ℕ) → many ≤ 512 → first + many ≤ frames → (many < 512 → first + many ≡ frames)
+    → n ≤ first + 512 → (n < first + 512 → n ≡ frames) → n ≤ frames → n ≡ first + many
 block_end first many frames n few within whole most rest le =
-    by_lt many 256
-    (λ lt. let e = whole lt in by_lt n (first + 256) (λ below. let f = rest below in omega arith) (λ from. omega arith))
-    (λ from. by_lt n (first + 256) (λ below. let f = rest below in omega arith) (λ more. omega arith))
+    by_lt many 512
+    (λ lt. let e = whole lt in by_lt n (first + 512) (λ below. let f = rest below in omega arith) (λ from. omega arith))
+    (λ from. by_lt n (first + 512) (λ below. let f = rest below in omega arith) (λ more. omega arith))
 
-pub in_block : (first many frames k : ℕ) → (many < 256 → first + many ≡ frames) → k < first + 256 → k < frames
+pub in_block : (first many frames k : ℕ) → (many < 512 → first + many ≡ frames) → k < first + 512 → k < frames
     → k < first + many
 in_block first many frames k whole near lt =
-    by_lt many 256 (λ less. let e = whole less in omega arith) (λ full. omega arith)
+    by_lt many 512 (λ less. let e = whole less in omega arith) (λ full. omega arith)
 
 -- a block that the whole of a tick goes on after, and its last one
-pub full_block : (first many frames : ℕ) → many ≤ 256 → (many < 256 → first + many ≡ frames) → first + 256 ≤ frames
-    → many ≡ 256
+pub full_block : (first many frames : ℕ) → many ≤ 512 → (many < 512 → first + many ≡ frames) → first + 512 ≤ frames
+    → many ≡ 512
 full_block first many frames few whole le =
-    by_lt many 256 (λ less. let e = whole less in omega arith) (λ full. omega arith)
+    by_lt many 512 (λ less. let e = whole less in omega arith) (λ full. omega arith)
 
-pub last_block : (first many frames : ℕ) → first + many ≤ frames → (many < 256 → first + many ≡ frames)
-    → frames ≤ first + 256 → first + many ≡ frames
-last_block first many frames within whole le = by_lt many 256 (λ less. whole less) (λ full. omega arith)
+pub last_block : (first many frames : ℕ) → first + many ≤ frames → (many < 512 → first + many ≡ frames)
+    → frames ≤ first + 512 → first + many ≡ frames
+last_block first many frames within whole le = by_lt many 512 (λ less. whole less) (λ full. omega arith)

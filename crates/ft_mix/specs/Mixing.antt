@@ -113,7 +113,7 @@ voice_cost frames voice = cost_by (frames / 2 + 9) (1 + 2 * frame_bound * frames
 abbrev pub tick_cost : ℕ → Voice → ℕ
 tick_cost frames voice = cost_by (frames / 2 + 8) (2 * frame_bound * frames) voice
 
--- and a block of at most 256 frames
+-- and a block of at most 512 frames
 abbrev pub block_cost : ℕ → Voice → ℕ
 block_cost frames voice = cost_by (5 + (frames + 3) / 4) (2 * frame_bound * frames) voice
 

@@ -32,10 +32,10 @@ fn add_voices<V: SongView>(
         voices.now }
     requires number { length voices.now ≤ 32 }
     requires some { 1 ≤ length left.old }
-    requires few { length left.old ≤ 256 }
+    requires few { length left.old ≤ 512 }
     requires both { length right.old ≡ length left.old }
     requires frames { first + length left.old ≤ 3751 }
-    requires room { length reached.old ≡ 2048 }
+    requires room { length reached.old ≡ 4096 }
     requires left { (k : ℕ) → k < length left.old → get_or left.old k (pos 0) ≡ pos 0 }
     requires right { (k : ℕ) → k < length left.old → get_or right.old k (pos 0) ≡ pos 0 }
     ensures sums { mixing.Tells V.shows V.shown view.old view.new (λ shown. mixing.AreSums first
@@ -51,7 +51,7 @@ fn add_voices<V: SongView>(
         ≤ V.work view.old + sum_by (mixing.block_cost (length left.old)) voices.now }
     ensures same { V.same view.old view.new }
 {
-    let mut room = [0; 256];
+    let mut room = [0; 512];
     let values = &mut room[..left.len()];
     for voice in voices {
         add_voice(view, *voice, first, reached, values, left, right);
@@ -108,10 +108,10 @@ fn fill_block<V: SongView>(
         voices.now }
     requires number { length voices.now ≤ 32 }
     requires some { 1 ≤ length left.old }
-    requires few { length left.old ≤ 256 }
+    requires few { length left.old ≤ 512 }
     requires both { length right.old ≡ length left.old }
     requires frames { first + length left.old ≤ 3751 }
-    requires reached { length reached.old ≡ 2048 }
+    requires reached { length reached.old ≡ 4096 }
     requires room { 2 * (first + length left.old) ≤ length out.old }
     ensures frames { mixing.Tells V.shows V.shown view.old view.new (λ shown.
         (k : ℕ) → k < length left.old → mixing.IsFrame
@@ -138,11 +138,11 @@ fn fill_block<V: SongView>(
 fn block_len(first: usize, frames: usize) -> usize
     requires { first < frames }
     ensures some { 1 ≤ result }
-    ensures few { result ≤ 256 }
+    ensures few { result ≤ 512 }
     ensures within { first + result ≤ frames }
-    ensures whole { result < 256 → first + result ≡ frames }
+    ensures whole { result < 512 → first + result ≡ frames }
 {
-    (frames - first).min(256)
+    (frames - first).min(512)
 }
 
 /// Writes the sound of voices over the whole of `out`, left and right in turn.
@@ -164,11 +164,11 @@ pub fn fill<V: SongView>(view: &mut V, voices: &[Voice], out: &mut [i16])
     ensures same { V.same view.old view.new }
 {
     let frames = out.len() / 2;
-    let mut reached = [0; 2048];
-    let mut left = [0; 256];
-    let mut right = [0; 256];
-    for block in 0..frames.div_ceil(256) {
-        let first = 256 * block;
+    let mut reached = [0; 4096];
+    let mut left = [0; 512];
+    let mut right = [0; 512];
+    for block in 0..frames.div_ceil(512) {
+        let first = 512 * block;
         let many = block_len(first, frames);
         fill_block(
             view,

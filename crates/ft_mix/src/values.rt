@@ -112,8 +112,8 @@ fn read_walk<V: SongView>(
     requires position { position / 2 ^ 32 < 2 ^ 24 }
     requires step { voice.step ≤ 2 ^ 33 }
     requires some { 1 ≤ length values.old }
-    requires few { length values.old ≤ 256 }
-    requires room { length reached.old ≡ 2048 }
+    requires few { length values.old ≤ 512 }
+    requires room { length reached.old ≡ 4096 }
     ensures values { mixing.Tells V.shows V.shown view.old view.new (λ shown. mixing.AreValues
         voice.head (get_or shown.kept voice.channel None) position voice.step
         (length values.old) values.new) }
@@ -195,8 +195,8 @@ fn read_far<V: SongView>(
     requires position { position + length values.old * voice.step < 2 ^ 56 }
     requires step { voice.step ≤ 2 ^ 35 }
     requires some { 8 ≤ length values.old }
-    requires few { length values.old ≤ 256 }
-    requires room { length reached.old ≡ 2048 }
+    requires few { length values.old ≤ 512 }
+    requires room { length reached.old ≡ 4096 }
     ensures values { mixing.Tells V.shows V.shown view.old view.new (λ shown. mixing.AreValues
         voice.head (get_or shown.kept voice.channel None) position voice.step
         (length values.old) values.new) }
@@ -276,9 +276,9 @@ pub fn read_values<V: SongView>(
 )
     requires voice { mixing.IsMixed (V.keeps view.old) (length (V.holds view.old)) voice }
     requires some { 1 ≤ length values.old }
-    requires few { length values.old ≤ 256 }
+    requires few { length values.old ≤ 512 }
     requires frames { first + length values.old ≤ 3751 }
-    requires room { length reached.old ≡ 2048 }
+    requires room { length reached.old ≡ 4096 }
     ensures values { mixing.Tells V.shows V.shown view.old view.new (λ shown. mixing.AreValues
         voice.head (get_or shown.kept voice.channel None) (voice.pos + first * voice.step)
         voice.step (length values.old) values.new) }

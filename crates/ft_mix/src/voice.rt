@@ -23,11 +23,11 @@ pub fn add_voice<V: SongView>(
 )
     requires voice { mixing.IsMixed (V.keeps view.old) (length (V.holds view.old)) voice }
     requires some { 1 ≤ length left.old }
-    requires few { length left.old ≤ 256 }
+    requires few { length left.old ≤ 512 }
     requires both { length right.old ≡ length left.old }
     requires values { length values.old ≡ length left.old }
     requires frames { first + length left.old ≤ 3751 }
-    requires room { length reached.old ≡ 2048 }
+    requires room { length reached.old ≡ 4096 }
     requires left { mixing.AreLoud 31 (length left.old) left.old }
     requires right { mixing.AreLoud 31 (length left.old) right.old }
     ensures sums { mixing.Tells V.shows V.shown view.old view.new (λ shown.

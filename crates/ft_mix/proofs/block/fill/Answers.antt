@@ -29,20 +29,20 @@ loop-block-preserved g c =
           let b = c.loop-block.invariant.frames w a.0 in
           let kept = (g.V.SongView.shown c.args.view.now w).kept in
           let new : (k : ℕ) → k < many
-          → IsFrame (voices_sum (left_of (256 * block + k)) kept c.args.voices.now)
-          (voices_sum (right_of (256 * block + k)) kept c.args.voices.now) (256 * block + k)
+          → IsFrame (voices_sum (left_of (512 * block + k)) kept c.args.voices.now)
+          (voices_sum (right_of (512 * block + k)) kept c.args.voices.now) (512 * block + k)
           c.fill_block.new.out =
           λ k lt.
           subst
           (λ (s : Shown).
-          IsFrame (voices_sum (left_of (256 * block + k)) s.kept c.args.voices.now)
-          (voices_sum (right_of (256 * block + k)) s.kept c.args.voices.now) (256 * block + k)
+          IsFrame (voices_sum (left_of (512 * block + k)) s.kept c.args.voices.now)
+          (voices_sum (right_of (512 * block + k)) s.kept c.args.voices.now) (512 * block + k)
           c.fill_block.new.out) b.1 (a.2 k (subst (λ (n : ℕ). k < n) (sym lent) lt)) in (
             b.0,
             a.1 ∙ b.1,
-            λ k lt below. more_frames kept c.args.voices.now (256 * block) many c.loop-block.out c.fill_block.new.out
+            λ k lt below. more_frames kept c.args.voices.now (512 * block) many c.loop-block.out c.fill_block.new.out
                 (λ n less. b.2 n less (omega arith)) c.fill_block.ensures.before new k
-                (in_block (256 * block) many (length c.args.out.now / 2) k whole (omega arith) below),
+                (in_block (512 * block) many (length c.args.out.now / 2) k whole (omega arith) below),
           );
       many = c.fill_block.ensures.many ∙ c.loop-block.invariant.many;
       reached = c.fill_block.ensures.reached ∙ c.loop-block.invariant.reached;
@@ -50,11 +50,11 @@ loop-block-preserved g c =
       keeps = λ k h s. c.fill_block.ensures.keeps k h (c.loop-block.invariant.keeps k h s);
       rising = omega arith;
       work = λ n most rest le.
-          let same : n ≡ 256 * block + many =
-          block_end (256 * block) many (length c.args.out.now / 2) n few within whole (omega arith)
+          let same : n ≡ 512 * block + many =
+          block_end (512 * block) many (length c.args.out.now / 2) n few within whole (omega arith)
           (λ lt. rest (omega arith)) le in
           let before =
-          c.loop-block.invariant.work (256 * block) (omega arith) (λ lt. absurd (omega arith)) (omega arith) in
+          c.loop-block.invariant.work (512 * block) (omega arith) (λ lt. absurd (omega arith)) (omega arith) in
           let now =
           subst
           (λ (x : ℕ).
@@ -66,18 +66,18 @@ loop-block-preserved g c =
           g.V.SongView.work c.fill_block.new.view
           ≤ g.V.SongView.work c.args.view.now + length c.args.voices.now * (6 * x)) (sym same) (omega arith);
       whole = λ le.
-          let full : many ≡ 256 = full_block (256 * block) many (length c.args.out.now / 2) few whole (omega arith) in
+          let full : many ≡ 512 = full_block (512 * block) many (length c.args.out.now / 2) few whole (omega arith) in
           let before = c.loop-block.invariant.whole (omega arith) in
           let sums =
-          costs_more (256 * block / 2) (6 * (256 * block)) (5 + (many + 3) / 4) (6 * many) (256 * (block + 1) / 2)
-          (6 * (256 * (block + 1))) c.args.voices.now (omega arith) (omega arith) in
+          costs_more (512 * block / 2) (6 * (512 * block)) (5 + (many + 3) / 4) (6 * many) (512 * (block + 1) / 2)
+          (6 * (512 * (block + 1))) c.args.voices.now (omega arith) (omega arith) in
           omega (arith, cost);
       all = λ le.
-          let last : 256 * block + many ≡ length c.args.out.now / 2 =
-          last_block (256 * block) many (length c.args.out.now / 2) within whole (omega arith) in
+          let last : 512 * block + many ≡ length c.args.out.now / 2 =
+          last_block (512 * block) many (length c.args.out.now / 2) within whole (omega arith) in
           let before = c.loop-block.invariant.whole (omega arith) in
           let sums =
-          costs_more (256 * block / 2) (6 * (256 * block)) (5 + (many + 3) / 4) (6 * many)
+          costs_more (512 * block / 2) (6 * (512 * block)) (5 + (many + 3) / 4) (6 * many)
           (length c.args.out.now / 2 / 2 + 8) (6 * (length c.args.out.now / 2)) c.args.voices.now (omega arith)
           (omega arith) in
           omega (arith, cost);

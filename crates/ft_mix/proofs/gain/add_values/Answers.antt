@@ -1,9 +1,9 @@
-use Rattle.std.proofs.Common.{rules, ◌≡◌, ◌≢◌, ◌≤◌, ◌<◌, ◌+◌, ◌∙◌, ℕ, ℤ, pos, ◌+ℤ◌, to_z, of_z, List, length, get_or, set, length-set, get_or-set_other, ap, subst, sym, arith}
+use Rattle.std.proofs.Common.{rules, ◌≡◌, ◌≢◌, ◌<◌, ◌+◌, ◌∙◌, ℕ, ℤ, pos, ◌+ℤ◌, to_z, of_z, List, length, get_or, set, length-set, get_or-set_other, ap, subst, sym, arith}
 use Rattle.std.specs.Int.{w16, w32}
 use Rattle.std.specs.Prelude.{FitsSigned}
 use Rattle.std.proofs.lemmas.Int.{ints, to_z-of_z}
 use Rattle.ft_replay.specs.Sound.{gained}
-use Rattle.ft_mix.specs.Mixing.{IsLoud, AreLoud, HaveAdded}
+use Rattle.ft_mix.specs.Mixing.{IsLoud, HaveAdded}
 use Rattle.ft_mix.proofs.Stored.{more}
 use Rattle.ft_mix.proofs.gain.add_values.Goals as goal
 

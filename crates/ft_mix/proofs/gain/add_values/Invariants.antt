@@ -1,4 +1,4 @@
-use Rattle.std.proofs.Common.{◌≡◌, ◌≤◌, ◌<◌, ℕ, pos, length, get_or}
+use Rattle.std.proofs.Common.{◌≡◌, ◌≤◌, ℕ, pos, length, get_or}
 use Rattle.ft_mix.specs.Mixing as mixing
 use Rattle.ft_mix.proofs.gain.add_values.Given as goal
 
