@@ -35,7 +35,7 @@ fn add_voices<V: SongView>(
     requires few { length left.old ≤ 512 }
     requires both { length right.old ≡ length left.old }
     requires frames { first + length left.old ≤ 3751 }
-    requires room { length reached.old ≡ 4096 }
+    requires room { length reached.old ≡ 1024 }
     requires left { (k : ℕ) → k < length left.old → get_or left.old k (pos 0) ≡ pos 0 }
     requires right { (k : ℕ) → k < length left.old → get_or right.old k (pos 0) ≡ pos 0 }
     ensures sums { mixing.Tells V.shows V.shown view.old view.new (λ shown. mixing.AreSums first
@@ -111,7 +111,7 @@ fn fill_block<V: SongView>(
     requires few { length left.old ≤ 512 }
     requires both { length right.old ≡ length left.old }
     requires frames { first + length left.old ≤ 3751 }
-    requires reached { length reached.old ≡ 4096 }
+    requires reached { length reached.old ≡ 1024 }
     requires room { 2 * (first + length left.old) ≤ length out.old }
     ensures frames { mixing.Tells V.shows V.shown view.old view.new (λ shown.
         (k : ℕ) → k < length left.old → mixing.IsFrame
@@ -164,7 +164,7 @@ pub fn fill<V: SongView>(view: &mut V, voices: &[Voice], out: &mut [i16])
     ensures same { V.same view.old view.new }
 {
     let frames = out.len() / 2;
-    let mut reached = [0; 4096];
+    let mut reached = [0; 1024];
     let mut left = [0; 512];
     let mut right = [0; 512];
     for block in 0..frames.div_ceil(512) {

@@ -113,7 +113,7 @@ fn read_walk<V: SongView>(
     requires step { voice.step ≤ 2 ^ 33 }
     requires some { 1 ≤ length values.old }
     requires few { length values.old ≤ 512 }
-    requires room { length reached.old ≡ 4096 }
+    requires room { length reached.old ≡ 1024 }
     ensures values { mixing.Tells V.shows V.shown view.old view.new (λ shown. mixing.AreValues
         voice.head (get_or shown.kept voice.channel None) position voice.step
         (length values.old) values.new) }
@@ -182,13 +182,7 @@ fn read_ahead<V: SongView>(
 /// The values of a voice from a position on, where it moves by more than two frames at once, and by at most
 /// eight: all frames that it reaches are read first where they lie in few pieces, and else each value is
 /// read by itself.
-fn read_far<V: SongView>(
-    view: &mut V,
-    voice: Voice,
-    position: u64,
-    reached: &mut [i16],
-    values: &mut [i32],
-)
+fn read_far<V: SongView>(view: &mut V, voice: Voice, position: u64, values: &mut [i32])
     requires channel { voice.channel < length (V.holds view.old) }
     requires kept { V.keeps view.old voice.channel voice.head }
     requires head { IsValidHead voice.head }
@@ -196,13 +190,11 @@ fn read_far<V: SongView>(
     requires step { voice.step ≤ 2 ^ 35 }
     requires some { 8 ≤ length values.old }
     requires few { length values.old ≤ 512 }
-    requires room { length reached.old ≡ 4096 }
     ensures values { mixing.Tells V.shows V.shown view.old view.new (λ shown. mixing.AreValues
         voice.head (get_or shown.kept voice.channel None) position voice.step
         (length values.old) values.new) }
     ensures range { mixing.Fit16 (length values.old) values.new }
     ensures many { length values.new ≡ length values.old }
-    ensures room { length reached.new ≡ length reached.old }
     ensures holds { V.holds view.new ≡ V.holds view.old }
     ensures keeps { (c : ℕ) (h : Head) → V.keeps view.old c h → V.keeps view.new c h }
     ensures work { (V.work view.old ≤ V.work view.new) × (V.work view.new
@@ -211,7 +203,8 @@ fn read_far<V: SongView>(
 {
     let start = position % (1 << 32);
     let last = start + (values.len() as u64 - 1) * voice.step;
-    let reached = &mut reached[..(last >> 32) as usize + 2];
+    let mut room = [0; 4096];
+    let reached = &mut room[..(last >> 32) as usize + 2];
     let at = (position >> 32) as u32;
     if !read_ahead(view, voice.channel, &voice.head, at, reached) {
         read_leaps(view, voice, position, values);
@@ -278,7 +271,7 @@ pub fn read_values<V: SongView>(
     requires some { 1 ≤ length values.old }
     requires few { length values.old ≤ 512 }
     requires frames { first + length values.old ≤ 3751 }
-    requires room { length reached.old ≡ 4096 }
+    requires room { length reached.old ≡ 1024 }
     ensures values { mixing.Tells V.shows V.shown view.old view.new (λ shown. mixing.AreValues
         voice.head (get_or shown.kept voice.channel None) (voice.pos + first * voice.step)
         voice.step (length values.old) values.new) }
@@ -299,7 +292,7 @@ pub fn read_values<V: SongView>(
         return;
     }
     if voice.step <= 1 << 35 && values.len() >= 8 {
-        read_far(view, voice, position, reached, values);
+        read_far(view, voice, position, values);
         return;
     }
     read_leaps(view, voice, position, values);

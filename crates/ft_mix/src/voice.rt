@@ -27,7 +27,7 @@ pub fn add_voice<V: SongView>(
     requires both { length right.old ≡ length left.old }
     requires values { length values.old ≡ length left.old }
     requires frames { first + length left.old ≤ 3751 }
-    requires room { length reached.old ≡ 4096 }
+    requires room { length reached.old ≡ 1024 }
     requires left { mixing.AreLoud 31 (length left.old) left.old }
     requires right { mixing.AreLoud 31 (length left.old) right.old }
     ensures sums { mixing.Tells V.shows V.shown view.old view.new (λ shown.

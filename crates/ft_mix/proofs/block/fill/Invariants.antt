@@ -14,7 +14,7 @@ invariant-loop-block g l = record {
       → mixing.IsFrame (sound.voices_sum (sound.left_of k) (g.V.SongView.shown l.fn.view w).kept l.voices)
       (sound.voices_sum (sound.right_of k) (g.V.SongView.shown l.fn.view w).kept l.voices) k l.out);
   many : length l.out ≡ length l.fn.out;
-  reached : length l.reached ≡ 4096;
+  reached : length l.reached ≡ 1024;
   holds : g.V.SongView.holds l.view ≡ g.V.SongView.holds l.fn.view;
   keeps : (c : ℕ) (h : SampleHead) → g.V.SongView.keeps l.fn.view c h → g.V.SongView.keeps l.view c h;
   rising : g.V.SongView.work l.fn.view ≤ g.V.SongView.work l.view;
