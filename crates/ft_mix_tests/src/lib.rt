@@ -1,5 +1,7 @@
-//! Tests of the mixer: places in loops, and a looped sample over a view of a module.
+//! Tests of the mixer: places in loops, and looped samples over a view of a module.
 #![tactic(auto)]
 
+#[cfg(test)]
+mod fast;
 #[cfg(test)]
 mod loops;
