@@ -77,6 +77,7 @@ impl Births {
         ensures lives { self.new.lives ≡ self.old.lives }
         ensures marks { self.new.marks
             ≡ marking.keep_living version self.old.lives self.old.marks }
+        ensures many { length self.new.marks ≡ length self.old.marks }
     {
         self.free -= mark_living(&mut self.marks, &self.lives, version);
     }
@@ -117,7 +118,7 @@ impl Births {
 
     /// A segment of the pool dies at `version`: it isn't part of this version any more.
     pub fn retire(&mut self, segment: u16, version: u32)
-        requires { segment < length self.old.lives }
+        requires { segment < length self.old.marks }
         ensures lives { self.new.lives ≡ retired version segment self.old.lives }
         ensures marks { self.new.marks ≡ self.old.marks }
     {
