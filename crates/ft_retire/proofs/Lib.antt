@@ -1,0 +1,5 @@
+pub mod Marking
+pub mod Living
+pub mod Undoing
+pub mod Counting
+pub mod Opening

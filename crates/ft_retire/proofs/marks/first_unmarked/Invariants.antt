@@ -1,0 +1,5 @@
+use Rattle.ft_retire.specs.Marks.{AreMarked}
+use Rattle.ft_retire.proofs.marks.first_unmarked.Given as goal
+
+abbrev pub invariant-loop-segment : goal.invariant-loop-segment
+invariant-loop-segment l = AreMarked l.segment l.marks

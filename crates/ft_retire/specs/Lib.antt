@@ -1,0 +1,4 @@
+pub mod Lives
+pub mod Marks
+pub mod Births
+pub mod Laws
