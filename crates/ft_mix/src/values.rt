@@ -35,7 +35,7 @@ fn value_between(reached: &[i16], place: u64) -> i32
 fn walk_four(reached: &[i16], place: u64, step: u64, values: &mut [i32], k: usize)
     requires room { k + 4 ≤ length values.old }
     requires place { place < 2 ^ 62 }
-    requires step { step ≤ 2 ^ 35 }
+    requires step { step ≤ 2 ^ 36 }
     requires reached { (place + 3 * step) / 2 ^ 32 + 1 < length reached.now }
     requires range { mixing.Fit16 (length reached.now) reached.now }
     ensures values { (head : Head) (owned : Option Owned) (at position : ℕ)
@@ -58,7 +58,7 @@ fn walk_four(reached: &[i16], place: u64, step: u64, values: &mut [i32], k: usiz
 /// as a multiple of four.
 fn walk_fours(reached: &[i16], start: u64, step: u64, values: &mut [i32])
     requires start { start < 2 ^ 32 }
-    requires step { step ≤ 2 ^ 35 }
+    requires step { step ≤ 2 ^ 36 }
     requires few { length values.old ≤ 3751 }
     requires reached { (k : ℕ) → k < length values.old
         → (start + k * step) / 2 ^ 32 + 1 < length reached.now }
@@ -80,7 +80,7 @@ fn walk_fours(reached: &[i16], start: u64, step: u64, values: &mut [i32])
 /// The same, all of them.
 fn walk(reached: &[i16], start: u64, step: u64, values: &mut [i32])
     requires start { start < 2 ^ 32 }
-    requires step { step ≤ 2 ^ 35 }
+    requires step { step ≤ 2 ^ 36 }
     requires few { length values.old ≤ 3751 }
     requires reached { (k : ℕ) → k < length values.old
         → (start + k * step) / 2 ^ 32 + 1 < length reached.now }
@@ -180,14 +180,14 @@ fn read_ahead<V: SongView>(
 }
 
 /// The values of a voice from a position on, where it moves by more than two frames at once, and by at most
-/// eight: all frames that it reaches are read first where they lie in few pieces, and else each value is
+/// sixteen: all frames that it reaches are read first where they lie in few pieces, and else each value is
 /// read by itself.
 fn read_far<V: SongView>(view: &mut V, voice: Voice, position: u64, values: &mut [i32])
     requires channel { voice.channel < length (V.holds view.old) }
     requires kept { V.keeps view.old voice.channel voice.head }
     requires head { IsValidHead voice.head }
     requires position { position + length values.old * voice.step < 2 ^ 56 }
-    requires step { voice.step ≤ 2 ^ 35 }
+    requires step { voice.step ≤ 2 ^ 36 }
     requires some { 8 ≤ length values.old }
     requires few { length values.old ≤ 512 }
     ensures values { mixing.Tells V.shows V.shown view.old view.new (λ shown. mixing.AreValues
@@ -203,7 +203,7 @@ fn read_far<V: SongView>(view: &mut V, voice: Voice, position: u64, values: &mut
 {
     let start = position % (1 << 32);
     let last = start + (values.len() as u64 - 1) * voice.step;
-    let mut room = [0; 4096];
+    let mut room = [0; 8192];
     let reached = &mut room[..(last >> 32) as usize + 2];
     let at = (position >> 32) as u32;
     if !read_ahead(view, voice.channel, &voice.head, at, reached) {
@@ -291,7 +291,7 @@ pub fn read_values<V: SongView>(
         read_walk(view, voice, position, reached, values);
         return;
     }
-    if voice.step <= 1 << 35 && values.len() >= 8 {
+    if voice.step <= 1 << 36 && values.len() >= 8 {
         read_far(view, voice, position, values);
         return;
     }

@@ -14,7 +14,7 @@ use std::test::Fail;
 /// Whether the loop of the first sample of the song of 7 goes there and back, where the voice is, by how
 /// many quarters of a frame it moves at once, and ten frames of output, left and right in turn. The loop is
 /// the whole of the sample's 16,384 frames.
-static FAST: [(bool, u32, u64, [i16; 20]); 6] = [
+static FAST: [(bool, u32, u64, [i16; 20]); 7] = [
     (
         false,
         16_364,
@@ -69,12 +69,21 @@ static FAST: [(bool, u32, u64, [i16; 20]); 6] = [
             150, -1473, -737, -2101, -1051,
         ],
     ),
+    (
+        true,
+        16_300,
+        71,
+        [
+            4612, 2306, 5038, 2519, 1499, 749, -5715, -2858, 6367, 3183, -2356, -1178, -357, -179,
+            -6766, -3383, -7679, -3840, 6249, 3124,
+        ],
+    ),
 ];
 
 /// Mixes ten frames of a voice. Nothing where the song has no such sample.
 fn play(song: &Module, from: u32, quarters: u64) -> [i16; 20]
     requires song { IsValid song.now }
-    requires step { quarters ≤ 64 }
+    requires step { quarters ≤ 128 }
 {
     let mut out = [0; 20];
     let mut view = ModuleView::new(song);
@@ -109,7 +118,7 @@ fn song_of(alloc: Global, there_and_back: bool) -> Result<Module, AllocError> {
 
 /// Whether a voice is played as its row says.
 fn is_played(song: &Module, from: u32, quarters: u64, expected: &[i16; 20]) -> bool {
-    valid(song) && play(song, from, quarters.min(64)) == *expected
+    valid(song) && play(song, from, quarters.min(128)) == *expected
 }
 
 /// Whether each row of one form of loop is played as it says.
