@@ -34,19 +34,31 @@ import math
 import sys
 
 sys.path.insert(0, sys.argv[1])
-from canonical import header, instrument, pattern
+from canonical import header, pattern, voiced
 
-channels, rows_apart, path = int(sys.argv[2]), int(sys.argv[3]), sys.argv[4]
-frames = [round(100 * math.sin(at * 0.05)) for at in range(200000)]
-notes = {(row, channel): (49, 1, 0x38, 0, 0) for row in range(0, 256, rows_apart) for channel in range(channels)}
-song = header(b"voices", [0, 0, 0], channels, 1, 1) + pattern(256, channels, notes) + instrument(b"sine", frames)
+channels, rows_apart, note, form, path = int(sys.argv[2]), int(sys.argv[3]), int(sys.argv[4]), sys.argv[5], sys.argv[6]
+wide = form == "looped"
+frames = [round((25000 if wide else 100) * math.sin(at * 0.05)) for at in range(200000)]
+loop = (1, 0, 200000) if wide else (0, 0, 0)
+notes = {(row, channel): (note, 1, 0x38, 0, 0) for row in range(0, 256, rows_apart) for channel in range(channels)}
+song = header(b"voices", [0, 0, 0], channels, 1, 1) + pattern(256, channels, notes) + voiced(b"sine", frames, wide=wide, loop=loop)
 open(path, "wb").write(song)
 PYTHON
-python3 "$work/voices.py" "$here/tools" 32 256 "$work/many.xm"
-python3 "$work/voices.py" "$here/tools" 8 64 "$work/eight.xm"
-short=$(count step "$work/many.xm" /dev/null ledger --seconds=2)
-long=$(count step "$work/many.xm" /dev/null ledger --seconds=6)
-awk -v s="$short" -v l="$long" 'BEGIN { printf "32 voices at 44,100 Hz: %.2f instructions a frame and voice\n", (l - s) / (4 * 44100 * 32) }'
+
+# voices TEXT CHANNELS NOTE FORM: the instructions a frame and voice of a song of voices on one note
+voices() {
+    python3 "$work/voices.py" "$here/tools" "$2" 256 "$3" "$4" "$work/voices.xm"
+    local short long
+    short=$(count step "$work/voices.xm" /dev/null ledger --seconds=2)
+    long=$(count step "$work/voices.xm" /dev/null ledger --seconds=6)
+    awk -v s="$short" -v l="$long" -v t="$1" -v v="$2" 'BEGIN { printf "  %s: %.2f\n", t, (l - s) / (4 * 44100 * v) }'
+}
+echo "instructions a frame and voice at 44,100 Hz:"
+voices "32 looped voices of 16 bits, 0.30 frames of their sample at once" 32 57 looped
+voices "the same, 1.91 frames at once" 32 89 looped
+voices "the same, 2.86 frames at once" 32 96 looped
+voices "8 voices of 8 bits without a loop, 0.30 frames at once" 8 57 plain
+python3 "$work/voices.py" "$here/tools" 8 64 49 plain "$work/eight.xm"
 if command -v rustc >/dev/null; then
     rustc -O -o "$work/loop" "$here/tools/mixing_loop.rs"
     loop_count() {
