@@ -52,7 +52,14 @@ voices() {
     short=$(count step "$work/voices.xm" /dev/null ledger --seconds=2)
     long=$(count step "$work/voices.xm" /dev/null ledger --seconds=6)
     awk -v s="$short" -v l="$long" -v t="$1" -v v="$2" 'BEGIN { printf "  %s: %.2f\n", t, (l - s) / (4 * 44100 * v) }'
+    # over a plain module, where `rt run` in crates/ft_bench_play has built that program: ticks of 882 frames
+    if [ -x "$plain" ]; then
+        short=$(program=$plain count "$work/voices.xm" 44100 100)
+        long=$(program=$plain count "$work/voices.xm" 44100 300)
+        awk -v s="$short" -v l="$long" -v v="$2" 'BEGIN { printf "    over a plain module: %.2f\n", (l - s) / (200 * 882 * v) }'
+    fi
 }
+plain=$here/crates/ft_bench_play/out/ft_bench_play
 echo "instructions a frame and voice at 44,100 Hz:"
 voices "32 looped voices of 16 bits, 0.30 frames of their sample at once" 32 57 looped
 voices "the same, 1.91 frames at once" 32 89 looped
