@@ -1,7 +1,7 @@
 #!/usr/bin/env bash
 # The script xmstudio: it proves each state of the sources once, whatever the times of the files are,
-# and runs no program that isn't proved. It is tried on a copy of the sources, with a prover that
-# only counts its calls.
+# crates side by side and each after those that it stands on, and runs no program that isn't proved.
+# It is tried on a copy of the sources, with a prover that only notes its calls.
 set -u
 here=$(cd "$(dirname "$0")/../.." && pwd)
 work=$(mktemp -d)
@@ -18,6 +18,14 @@ for crate in "$here"/crates/*; do
 done
 cat >"$work/bin/rt" <<'PROVER'
 #!/usr/bin/env bash
+name=$(basename "$PWD")
+if [ "$1" = lib ]; then
+    echo "begin $name" >>"$CALLS.libraries"
+    sleep 0.05
+    [ -e "$CALLS.refuse-$name" ] && exit 1
+    echo "end $name" >>"$CALLS.libraries"
+    exit 0
+fi
 echo call >>"$CALLS"
 [ -e "$CALLS.refuse" ] && exit 1
 mkdir -p out
@@ -40,9 +48,31 @@ run() {
 }
 
 source=$work/repo/crates/ft_run/src/run.rt
+touch "$CALLS.refuse-ft_replay"
+run 70 0 'a library that is refused'
+grep -q '^xmstudio: ft_replay could not be proved$' "$work/stderr" || { echo "the refused library isn't named"; failed=1; }
+grep -q 'ft_run' "$CALLS.libraries" && { echo "a library was proved over a refused one"; failed=1; }
+rm "$CALLS.refuse-ft_replay"
+: >"$CALLS.libraries"
 touch "$CALLS.refuse"
 run 70 1 'sources that are refused'
 rm "$CALLS.refuse"
+# each library after those that it stands on, at least two of them at once, and each is told
+awk -F'[: ]+' '
+    NR == FNR { if ($0 !~ /^#/) for (i = 2; i <= NF; i++) below[$1] = below[$1] " " $i; own[$1]; next }
+    { split($0, it, " ") }
+    it[1] == "begin" {
+        if (++at_once > most) most = at_once
+        split(below[it[2]], names, " ")
+        for (i in names) if (names[i] in own && !(names[i] in ended)) { print it[2] " was begun before " names[i]; bad = 1 }
+    }
+    it[1] == "end" { at_once--; ended[it[2]]; many++ }
+    END { if (many < 15) { print "only " many " libraries"; bad = 1 } exit bad || (most < 2) * 2 }
+' "$work/repo/crates.txt" "$CALLS.libraries"
+order=$?
+[ "$order" = 0 ] || [ "$order$(nproc)" = 21 ] || { echo "the order of the libraries: $order"; failed=1; }
+last=$(grep '^xmstudio: proved ' "$work/stderr" | tail -n 1)
+[[ $last == "xmstudio: proved $(grep -c '^end' "$CALLS.libraries") of "* ]] || { echo "the last line on libraries: $last"; failed=1; }
 run 3 2 'the first call'
 run 3 2 'the second call'
 touch "$source"
