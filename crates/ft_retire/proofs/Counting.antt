@@ -17,16 +17,18 @@ counted_anew lives marks n free many few e none = subst
       few = omega (arith, length-replicate n false);
       counted = e ∙ sym (no_marks n);
       passed = λ s lt. absurd (omega arith);
+      inside = omega arith;
     })
 
 -- all are marked
 pub counted_full : (lives : List Life) (marks : List Bool) (free next end : ℕ)
-    → IsCounted lives marks free next → unmarked_in marks ≡ 0 → IsCounted lives marks free end
-counted_full lives marks free next end old none = record {
+    → IsCounted lives marks free next → unmarked_in marks ≡ 0 → end ≤ length marks → IsCounted lives marks free end
+counted_full lives marks free next end old none le = record {
   many = old.many;
   few = old.few;
   counted = old.counted;
   passed = λ s lt. none_unmarked marks s none;
+  inside = le;
 }
 
 -- a segment is given
@@ -43,4 +45,5 @@ counted_given lives marks new free next segment count life old least e less here
   passed = below_more (λ (k : ℕ). get_or new k true ≡ true) segment
       (λ k lt. subst (λ (ms : List Bool). get_or ms k true ≡ true) (sym e)
       (stays_marked marks segment k (least.below k lt))) here;
+  inside = omega (arith, least.within, ap length e, length-set marks segment true);
 }

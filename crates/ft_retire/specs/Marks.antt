@@ -1,5 +1,5 @@
 -- Marks on the segments of a pool, in their order.
-use Rattle.std.specs.Prelude.{◌≡◌, ◌<◌, ◌+◌, ◌||◌, ℕ, Bool, true, false, List, [], ◌∷◌, length, get_or}
+use Rattle.std.specs.Prelude.{◌≡◌, ◌<◌, ◌+◌, ◌||◌, ℕ, Bool, true, false, List, [], ◌∷◌, Option, None, Some, length, get_or}
 use Rattle.ft_retire.specs.declared.life.Life.{Life}
 use Rattle.ft_retire.specs.Lives.{lives_at}
 
@@ -18,6 +18,12 @@ pub record IsLeastUnmarked (marks : List Bool) (segment : ℕ) : Type 0 where
   pub within : segment < length marks
   pub unmarked : get_or marks segment true ≡ false
   pub below : AreMarked segment marks
+
+-- how many marks are looked at, one after the other, until a segment is found: those up to its own,
+-- or all where none is found
+abbrev pub looked_at : List Bool → Option ℕ → ℕ
+looked_at marks None = length marks
+looked_at marks (Some segment) = segment + 1
 
 -- The marks where each segment that lives at the version is marked beside those that were
 abbrev pub keep_living : ℕ → List Life → List Bool → List Bool

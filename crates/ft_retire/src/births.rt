@@ -12,15 +12,16 @@ use std::alloc::Global;
 use std::marker::Model;
 
 /// The birth and the death of each segment of a pool, and a mark on each. Contracts see the lives
-/// and the marks, in the order of the segments.
+/// and the marks, in the order of the segments, and how many marks `give` has looked at.
 #[derive(Drop)]
 pub struct Births {
     lives: Vec<Life>,
     marks: Vec<bool>,
     /// How many segments are unmarked.
     free: u32,
-    /// Each segment below this one is marked.
-    next: usize,
+    /// How many marks `give` has looked at since they were forgotten: those of the segments below
+    /// this one, each once. All of them are set.
+    looked: usize,
 }
 
 impl Model for Births {
@@ -28,10 +29,14 @@ impl Model for Births {
 
     ghost Value = { BirthsState };
 
-    ghost view = { λ births. record { lives = births.lives.items; marks = births.marks.items } };
+    ghost view = { λ births. record {
+      lives = births.lives.items;
+      marks = births.marks.items;
+      looked = births.looked;
+    } };
 
     ghost invariant = { λ births.
-        IsCounted births.lives.items births.marks.items births.free births.next };
+        IsCounted births.lives.items births.marks.items births.free births.looked };
 }
 
 impl Births {
@@ -42,6 +47,7 @@ impl Births {
         ensures lives { IfOk result (λ births. births.lives
             ≡ replicate live (lives.born_at version) ++ replicate (segments - live) lives.never) }
         ensures marks { IfOk result (λ births. births.marks ≡ replicate segments false) }
+        ensures looked { IfOk result (λ births. births.looked ≡ 0) }
     {
         let lives = first_lives(alloc, segments, live, version)?;
         let marks = vec![in alloc; false; usize::from(segments)]?;
@@ -49,7 +55,7 @@ impl Births {
             lives,
             marks,
             free: u32::from(segments),
-            next: 0,
+            looked: 0,
         })
     }
 
@@ -61,32 +67,35 @@ impl Births {
         let _ = &self.lives;
     }
 
-    /// Forgets the marks.
+    /// Forgets the marks. `give` looks at them from the first one on.
     pub fn begin(&mut self)
         ensures lives { self.new.lives ≡ self.old.lives }
         ensures marks { self.new.marks ≡ replicate (length self.old.marks) false }
+        ensures looked { self.new.looked ≡ 0 }
     {
         self.marks.fill(false);
         self.free = self.marks.len() as u32;
-        self.next = 0;
+        self.looked = 0;
     }
 
     /// Marks each segment that lives at a version: it was born at or before it, and its death, if
-    /// any, comes after it.
+    /// any, comes after it. Earlier marks stay.
     pub fn keep_version(&mut self, version: u32)
         ensures lives { self.new.lives ≡ self.old.lives }
         ensures marks { self.new.marks
             ≡ marking.keep_living version self.old.lives self.old.marks }
         ensures many { length self.new.marks ≡ length self.old.marks }
+        ensures looked { self.new.looked ≡ self.old.looked }
     {
         self.free -= mark_living(&mut self.marks, &self.lives, version);
     }
 
-    /// Marks a segment of the pool.
+    /// Marks a segment of the pool. Earlier marks stay.
     pub fn keep_segment(&mut self, segment: u16)
         requires { segment < length self.old.marks }
         ensures lives { self.new.lives ≡ self.old.lives }
         ensures marks { self.new.marks ≡ set self.old.marks segment true }
+        ensures looked { self.new.looked ≡ self.old.looked }
     {
         self.free -= mark(&mut self.marks, usize::from(segment));
     }
@@ -99,20 +108,23 @@ impl Births {
     }
 
     /// The least unmarked segment, which is marked now and born at `version`; a death of before is
-    /// forgotten. None comes exactly where no segment is unmarked, and then nothing changes.
+    /// forgotten. None comes exactly where no segment is unmarked, and then births and marks stay.
+    ///
+    /// It goes on from where the call before it ended: until the marks are forgotten, all calls
+    /// together look at each mark up to the given one once, and at no other.
     pub fn give(&mut self, version: u32) -> Option<u16>
         ensures least { IfSome result (λ segment.
             marking.IsLeastUnmarked self.old.marks segment) }
         ensures none { result ≡ None ↔ marking.unmarked_in self.old.marks ≡ 0 }
         ensures after { self.new ≡ after_give version result self.old }
     {
-        let Some(segment) = first_unmarked(&self.marks, self.next) else {
-            self.next = self.marks.len();
+        let (found, more) = first_unmarked(&self.marks, self.looked);
+        self.looked += more;
+        let Some(segment) = found else {
             return None;
         };
         self.free -= mark(&mut self.marks, segment);
         self.lives[segment] = Life::from_version(version);
-        self.next = segment + 1;
         Some(segment as u16)
     }
 
@@ -121,6 +133,7 @@ impl Births {
         requires { segment < length self.old.marks }
         ensures lives { self.new.lives ≡ retired version segment self.old.lives }
         ensures marks { self.new.marks ≡ self.old.marks }
+        ensures looked { self.new.looked ≡ self.old.looked }
     {
         self.lives[usize::from(segment)].died = Some(version);
     }
@@ -130,6 +143,7 @@ impl Births {
     pub fn undo(&mut self, version: u32)
         ensures lives { self.new.lives ≡ map (lives.undone version) self.old.lives }
         ensures marks { self.new.marks ≡ self.old.marks }
+        ensures looked { self.new.looked ≡ self.old.looked }
     {
         undo_all(&mut self.lives, version);
     }

@@ -36,16 +36,21 @@ pub fn mark_living(marks: &mut [bool], segments: &[Life], version: u32) -> u32
     count
 }
 
-/// The least unmarked segment, where all below `from` are marked.
-pub fn first_unmarked(marks: &[bool], from: usize) -> Option<usize>
+/// The least unmarked segment, where all below `from` are marked, and how many marks were looked
+/// at: those from `from` up to it, or to the last one where there is none.
+pub fn first_unmarked(marks: &[bool], from: usize) -> (Option<usize>, usize)
     requires passed { marking.AreMarked from marks.now }
-    ensures found { IfSome result (λ segment. marking.IsLeastUnmarked marks.now segment) }
-    ensures none { result ≡ None → marking.unmarked_in marks.now ≡ 0 }
+    requires within { from ≤ length marks.now }
+    ensures found { IfSome result.0 (λ segment. marking.IsLeastUnmarked marks.now segment) }
+    ensures none { result.0 ≡ None → marking.unmarked_in marks.now ≡ 0 }
+    ensures looked { from + result.1 ≡ marking.looked_at marks.now result.0 }
 {
+    let mut looked = 0;
     for segment in from..marks.len() {
+        looked += 1;
         if !marks[segment] {
-            return Some(segment);
+            return (Some(segment), looked);
         }
     }
-    None
+    (None, looked)
 }

@@ -10,8 +10,9 @@ use Rattle.ft_shared.specs.declared.law.Sizes.{Sizes}
 use Rattle.ft_shared.specs.declared.law.TakenVersion.{TakenVersion}
 use Rattle.ft_shared.specs.declared.law.Hold.{Hold}
 use Rattle.ft_shared.specs.declared.law.Account.{Account}
-use Rattle.ft_shared.specs.declared.law.View.TheVariants.{Writer}
-use Rattle.ft_shared.specs.Counts.{bit, total, pass_sum, one, grip, grip_of, holders}
+use Rattle.ft_shared.specs.declared.law.View.{View}
+use Rattle.ft_shared.specs.declared.law.View.TheVariants.{Spent, Reader, Writer, Told}
+use Rattle.ft_shared.specs.Counts.{bit, total, pass_sum, one, grip, grip_of, holders, IsBehind}
 use Rattle.ft_shared.specs.Account.{slot_at, is_free, answer_of, AreAllSettled, IsHeldSlot}
 use Rattle.ft_shared.specs.Register.{TableState, RegisterRule}
 use Rattle.ft_shared.proofs.Sums.{at-le, index-le, zero_total, zero_pass}
@@ -42,7 +43,7 @@ one_counts f (x ∷ xs) more = dite (dec_le 1 (f x))
     low (suc n) h = absurd (h (omega arith))
 
 -- what is in a list counts as part of it
-counts_in : {A : Type 0} (f : A → ℕ) (l : List A) (x : A) → Contains l x → f x ≤ total f l
+pub counts_in : {A : Type 0} (f : A → ℕ) (l : List A) (x : A) → Contains l x → f x ≤ total f l
 counts_in f l x c = let e : f (get_or l c.0 x) ≡ f x = ap f c.2 in let i = index-le f l c.0 x c.1 in omega arith
 
 pub bit-true : (b : Bool) → 1 ≤ bit b → b ≡ true
@@ -54,9 +55,29 @@ total-one [] = refl
 total-one (h ∷ l) = let r = total-one l in omega arith
 
 -- a pass that counts for a slot holds a version in it
-grips : (k slot : ℕ) (o : Option TakenVersion) → 1 ≤ grip k o slot → (taken : TakenVersion) × (o ≡ Some taken) × (slot ≡ k)
+pub grips : (k slot : ℕ) (o : Option TakenVersion) → 1 ≤ grip k o slot → (taken : TakenVersion) × (o ≡ Some taken) × (slot ≡ k)
 grips k slot None l = absurd (omega arith)
 grips k slot (Some t) l = (t, refl, true-eqb slot k (sym (bit-true (slot == k) l)))
+
+-- where the passes behind the seats count at all, one of them does
+pub counting_pass : (f : Hold → ℕ) (l : List View) → 1 ≤ total (pass_sum f) l
+    → (seat : ℕ) × (view : View) × (hold : Hold) × (get_elem? l seat ≡ some view) × IsBehind view hold × (1 ≤ f hold)
+counting_pass f [] more = absurd (omega arith)
+counting_pass f (v ∷ l) more = dite (dec_le 1 (pass_sum f v))
+    (λ (here : 1 ≤ pass_sum f v). let r = behind v here in (0, v, r.0, refl, r.1, r.2))
+    (λ (none : 1 ≤ pass_sum f v → ⊥).
+    let z : pass_sum f v ≡ 0 = low (pass_sum f v) none in
+    let r = counting_pass f l (omega arith) in (suc r.0, r.1, r.2, r.3, r.4, r.5))
+  where
+    low : (n : ℕ) → (1 ≤ n → ⊥) → n ≡ 0
+    low zero h = refl
+    low (suc n) h = absurd (h (omega arith))
+
+    behind : (v : View) → 1 ≤ pass_sum f v → (hold : Hold) × IsBehind v hold × (1 ≤ f hold)
+    behind Spent l = absurd (omega arith)
+    behind (Reader h) l = (h, refl, l)
+    behind (Writer a) l = let r = one_counts f a.settled l in (r.0, r.1, r.2)
+    behind (Told t) l = absurd (omega arith)
 
 some-of : {A : Type 0} (b : Bool) (x : A) → IsSome (cond b None (Some x)) ↔ (b ≡ false)
 some-of true x = ((λ e. sym e), (λ e. sym e))

@@ -82,6 +82,7 @@ module _ (key : Opening) where
         );
         segments = segments_seat key.sizes state.views a b id at refl
             (segments_filled key.sizes state.views a s place w few (λ of. may.1 (inl of))
+            (λ v f of. may.1 (inr (inl (v, f, of))))
             (λ seat view hold there behind t e of. may.1 (finds_held_by key names state rule may.0 seat view hold there behind s
             (inl (t, e, of))))
             (λ seat view hold there behind channel pin e placed is holds. may.1
@@ -154,7 +155,7 @@ module _ (key : Opening) where
           views = set state.views id (Writer (after_read e s place));
         }) (sym (set-get_or state.words i 0))
             (subst R (sym same.0) (λ t. scan_at key state rule id (after_read rule.account s place) t same.1 refl rule.deep (λ k. refl)
-            (λ k. refl) rule.unused rule.scanned rule.segments.answers rule.segments.order rule.segments.scanned) at'),
+            (λ k. refl) rule.unused rule.scanned rule.segments.answers rule.segments.answered rule.segments.order rule.segments.scanned) at'),
         λ s2 place2 few2 x. let one = same_place e.sizes s place s2 place2 few few2 x in
             ((λ j. (Writer (after_read e (one.0 j) (one.1 j)), me.1)), (found ∙ (λ j. word_at e.pool (one.0 j) (one.1 j)))),
       )

@@ -33,7 +33,7 @@ NamesHeld = (placed : Placed) (pool : List ℕ) (root segment : ℕ)
 none_some : {A : Type 0} (x : A) → None ≡ Some x → ⊥
 none_some x e = cc
 
-has-place : (l : List (Option Pin)) (k : ℕ) (pin : Pin) → slice_index_or l k None ≡ Some pin → k < length l
+pub has-place : (l : List (Option Pin)) (k : ℕ) (pin : Pin) → slice_index_or l k None ≡ Some pin → k < length l
 has-place [] k pin e = absurd (none_some pin e)
 has-place (x ∷ l) zero pin e = omega arith
 has-place (x ∷ l) (suc k) pin e = let r = has-place l k pin e in omega arith

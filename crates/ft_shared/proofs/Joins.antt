@@ -19,11 +19,11 @@ use Rattle.ft_shared.specs.Layout.{current_word, version_in}
 use Rattle.ft_shared.specs.Counts.{total, pass_sum, one, has_number, grip_of, holders, IsBehind, pin_amount}
 use Rattle.ft_shared.specs.Account.{hold_of, account_of, told_of, after_note, after_join, after_learning, last_settled}
 use Rattle.ft_shared.specs.History.{Agrees, AreSound}
-use Rattle.ft_shared.specs.Segments.{IsKept, ArePinsScanned}
+use Rattle.ft_shared.specs.Segments.{IsKept, KeepsHeld, ArePinsScanned}
 use Rattle.ft_shared.specs.Register.{TableState, SeatView, Stands, Fits, RegisterRule}
 use Rattle.ft_shared.specs.Plays.{after_making, made_note, after_hear, heard, IsLearning, joined, after_giving_back, resumed_hold, first_back, given_back}
 use Rattle.ft_shared.proofs.Sums.{total-set, total-append, at-le}
-use Rattle.ft_shared.proofs.Segments.{is_there, segments_still, segments_passes}
+use Rattle.ft_shared.proofs.Segments.{is_there, keeps_held, segments_still, segments_passes}
 use Rattle.ft_shared.proofs.Exact.{total-one}
 use Rattle.ft_shared.proofs.Readers.{fewer, version-now}
 use Rattle.ft_shared.proofs.Writes.{stands_still, seats_still, sum_still, scan_at}
@@ -113,8 +113,8 @@ module _ (key : Opening) where
               wide = k.wide;
               pins = λ c pin e. let p = k.pins c pin e in record { small = p.small; known = p.known; unwritten = p.unwritten };
             }))
-            (segments_still key.sizes state.views a b refl refl refl refl refl (λ k. refl) rule.segments.answers rule.segments.order
-            rule.segments.scanned rule.segments);
+            (segments_still key.sizes state.views a b refl refl refl refl refl (λ k. refl) rule.segments.answers rule.segments.answered
+            rule.segments.order rule.segments.scanned rule.segments);
         settled = λ i x l. stands_still key a b (get_or settled i x) refl (λ k. refl) refl (stand i x l);
         each_seat = seats;
       }
@@ -307,7 +307,8 @@ module _ (key : Opening) where
             })
             (sym same.0)
             (λ t. scan_at key state rule id (after_learning rule.account) t same.1 refl rule.deep (λ k. refl)
-            (λ k. refl) rule.unused rule.scanned rule.segments.answers rule.segments.order rule.segments.scanned) at'),
+            (λ k. refl) rule.unused rule.scanned rule.segments.answers rule.segments.answered rule.segments.order
+            rule.segments.scanned) at'),
         (
           refl,
           now,
@@ -317,6 +318,8 @@ module _ (key : Opening) where
           refl,
           subst (λ (z : Account). AreSound z.sizes.segments z.history) (sym same.0)
               (subst (λ (z : Sizes). AreSound z.segments rule.account.history) (sym rule.told) rule.segments.sound),
+          subst KeepsHeld (sym same.0)
+              (keeps_held key.sizes state.views rule.account id (at' ∙ ap (λ (z : Account). some (Writer z)) same.0) rule.segments),
         ),
       )
 

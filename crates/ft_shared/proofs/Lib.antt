@@ -5,9 +5,11 @@ pub mod Writes
 pub mod Joins
 pub mod Publish
 pub mod Opens
-mod Segments
+pub mod Segments
 pub mod Fills
 pub mod Seats
 pub mod Pinned
 pub mod Found
+pub mod CountedScan
+pub mod SettledScan
 pub mod ReadWords

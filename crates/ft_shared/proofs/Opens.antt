@@ -21,7 +21,7 @@ use Rattle.ft_shared.specs.Account.{slot_at, no_slot, new_slot, first_account, p
 use Rattle.ft_shared.specs.Segments.{IsAsPlaced}
 use Rattle.ft_shared.specs.Register.{Fits, RegisterRule}
 use Rattle.ft_shared.proofs.Sums.{bit-zero, all_one, pin_inside}
-use Rattle.ft_shared.proofs.Segments.{is_there}
+use Rattle.ft_shared.proofs.Segments.{is_there, none-answered}
 
 true-false : true ≡ false → ⊥
 true-false e = cc
@@ -141,6 +141,7 @@ module _ (key : Opening) where
               (λ segment of. ((λ place l. refl), filled-at key.version key.sizes.segments segment));
           borne = λ k l. subst (HasVersion a.history) (sym (version-of-slot k (omega arith))) (ap is_there here);
           answers = λ k l. absurd (omega arith);
+          answered = λ v f. absurd (none-answered v f);
           order = inl refl;
           scanned = λ seat view hold at behind. absurd (no-behind seat view hold at behind);
           kept = λ seat view hold at behind. absurd (no-behind seat view hold at behind);

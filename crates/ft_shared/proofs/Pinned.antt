@@ -426,7 +426,7 @@ module _ (key : Opening) where
       let b : Account = after_pin_scan a r c w in
       let new : PinAnswer = pin_answer r c (pinned_root w) in
       scan_at key state rule id b at writes refl rule.deep (λ k. refl) (λ k. refl) rule.unused rule.scanned rule.segments.answers
-      (inr slots.1)
+      rule.segments.answered (inr slots.1)
       (λ seat view hold there behind channel pin e met. ⊎_elim
       (λ (old : Contains a.pin_scan (pin_answer hold.notes.number channel met.0)). ⊎_elim
       (λ (f : IsPinAnswer a hold.notes.number channel (Some pin.root)). inl

@@ -108,7 +108,7 @@ module _ (key : Opening) where
         segments = segments_seat key.sizes state.views a b id at refl
             (segments_still key.sizes state.views a b refl refl refl refl refl versions
             (λ j l. rule.segments.answers j l ∙ (λ i. cond (sym (frees j) i) None
-            (Some (sym (versions j) i)))) rule.segments.order rule.segments.scanned rule.segments);
+            (Some (sym (versions j) i)))) rule.segments.answered rule.segments.order rule.segments.scanned rule.segments);
         settled = λ i x e. stands_still key a b (slice_index_or a.settled i x) refl versions refl (rule.settled i x e);
         each_seat = seats_still key state rule id writes b refl versions refl;
       }

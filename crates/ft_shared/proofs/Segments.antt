@@ -1,6 +1,6 @@
 -- The steps keep the rule of the segments.
 use Rattle.std.proofs.Common.{zero, suc, Bool, true, false, cond, ◌==◌, ◌≡◌, ◌≢◌, ◌⊎◌, ℕ, ◌+◌, ◌*◌, ◌<◌, ◌≤◌, List, [], ◌∷◌, ◌++◌, length, set, sym, refl, ap, ◌∙◌, subst, inl, ⊎_elim, arith, Option, Some, None, IsSome, IsNone, IsSomeAnd, IfSome, slice_index, slice_index_or, length-set, get_or-set_other, eq-eqb, ne_eqb}
-use Rattle.std.proofs.lemmas.List.Elements.{All-append, All-nil, All-cons, All-head, All-tail}
+use Rattle.std.proofs.lemmas.List.Elements.{Contains-get_or, All-append, All-nil, All-cons, All-head, All-tail}
 use mathlib.Core.Option.{some}
 use mathlib.Core.Logic.{dite}
 use native.Mathlib.Decide.{ℕ_discrete}
@@ -21,8 +21,8 @@ use Rattle.ft_shared.specs.declared.law.View.{View}
 use Rattle.ft_shared.specs.declared.law.View.TheVariants.{Reader, Writer}
 use Rattle.ft_shared.specs.Counts.{IsBehind, pin_of}
 use Rattle.ft_shared.specs.History.{placed_at, place_of, HasVersion, IsOfVersion, IsSoundVersion, AreSound}
-use Rattle.ft_shared.specs.Account.{slot_at, pin_answer, IsPinMet, after_fill, after_publish}
-use Rattle.ft_shared.specs.Segments.{IsAsPlaced, IsUnwritten, IsStanding, IsKept, ArePinsScanned, slot_answer, SegmentRule}
+use Rattle.ft_shared.specs.Account.{slot_at, pin_answer, IsPinMet, IsAnswered, after_learning, after_fill, after_publish}
+use Rattle.ft_shared.specs.Segments.{IsAsPlaced, IsUnwritten, IsStanding, IsKept, KeepsHeld, ArePinsScanned, slot_answer, SegmentRule}
 
 -- ---- versions of a history by their numbers
 
@@ -137,7 +137,7 @@ pin_still a b pin hs ps fs k =
     (λ i. (sym hs i, sym ps i, sym fs i)) k in
     record { small = moved.small; known = moved.known; unwritten = moved.unwritten }
 
-kept_still : (a b : Account) (h : Hold) → b.sizes ≡ a.sizes → b.history ≡ a.history → b.pool ≡ a.pool → b.filled ≡ a.filled → IsKept a h
+pub kept_still : (a b : Account) (h : Hold) → b.sizes ≡ a.sizes → b.history ≡ a.history → b.pool ≡ a.pool → b.filled ≡ a.filled → IsKept a h
     → IsKept b h
 kept_still a b h zs hs ps fs k = record {
   held = λ t e. unwritten_still a b t.version hs ps fs (k.held t e);
@@ -150,16 +150,37 @@ pub no-answer : (a : Account) → a.pin_scan ≡ [] → (reader channel : ℕ) �
 no-answer a none reader channel met = let c : Contains [] (pin_answer reader channel met.0) = subst
     (λ (l : List PinAnswer). Contains l (pin_answer reader channel met.0)) none met.1 in let l = c.1 in omega arith
 
+-- a scan without answers
+pub none-answered : (v : ℕ) → (let none : List (Option ℕ) = [] in Contains none (Some v)) → ⊥
+none-answered v f = let l = f.1 in omega arith
+
 module _ (sizes : Sizes) where
+  -- what the writer's seat knows to be held was not written since
+  pub keeps_held : (views : List View) (a : Account) (id : ℕ) → get_elem? views id ≡ some (Writer a) → SegmentRule sizes views a → KeepsHeld a
+  keeps_held views a id at rule = record {
+    current = rule.current;
+    answered = rule.answered;
+    settled = λ i x l. rule.kept id (Writer a) (slice_index_or a.settled i x) at (Contains-get_or a.settled i x l);
+  }
+
+  -- nor when the writer has learned of the settled passes
+  pub keeps_learned : (a : Account) → KeepsHeld a → KeepsHeld (after_learning a)
+  keeps_learned a k = record {
+    current = k.current;
+    answered = k.answered;
+    settled = λ i x l. kept_still a (after_learning a) (slice_index_or a.settled i x) refl refl refl refl (k.settled i x l);
+  }
+
   -- an account that differs in nothing that the segments rest on
   pub segments_still : (views : List View) (a b : Account) → b.sizes ≡ a.sizes → b.history ≡ a.history → b.pool ≡ a.pool
       → b.filled ≡ a.filled → b.version ≡ a.version
       → ((k : ℕ) → (slot_at b k).version ≡ (slot_at a k).version)
       → ((k : ℕ) → k < length b.scan → slice_index_or b.scan k None ≡ slot_answer b k)
+      → ((v : ℕ) → IsAnswered b v → IsUnwritten a v)
       → (b.pin_scan ≡ []) ⊎ (length b.scan ≡ sizes.readers + 2)
       → ((seat : ℕ) (view : View) (hold : Hold) → get_elem? views seat ≡ some view → IsBehind view hold → ArePinsScanned b hold)
       → SegmentRule sizes views a → SegmentRule sizes views b
-  segments_still views a b zs hs ps fs vs slots answers order scanned rule = record {
+  segments_still views a b zs hs ps fs vs slots answers answered order scanned rule = record {
     filled = (
       ap length fs ∙ rule.filled.0,
       λ k. let e : slice_index b.filled k ≡ slice_index a.filled k = ap
@@ -169,6 +190,7 @@ module _ (sizes : Sizes) where
     current = subst (IsUnwritten b) (sym vs) (unwritten_still a b a.version hs ps fs rule.current);
     borne = λ k l. subst (λ (z : List PlacedVersion × ℕ). HasVersion z.0 z.1) (λ i. (sym hs i, sym (slots k) i)) (rule.borne k l);
     answers = answers;
+    answered = λ v f. unwritten_still a b v hs ps fs (answered v f);
     order = order;
     scanned = scanned;
     kept = λ seat view hold at behind. kept_still a b hold zs hs ps fs (rule.kept seat view hold at behind);
@@ -185,6 +207,7 @@ module _ (sizes : Sizes) where
     current = rule.current;
     borne = rule.borne;
     answers = rule.answers;
+    answered = rule.answered;
     order = rule.order;
     scanned = scanned;
     kept = kept;
@@ -199,6 +222,7 @@ module _ (sizes : Sizes) where
     current = rule.current;
     borne = rule.borne;
     answers = rule.answers;
+    answered = rule.answered;
     order = rule.order;
     scanned = λ seat view hold e behind. ⊎_elim
         (λ (t : (seat ≡ id) × (Writer b ≡ view)). rule.scanned id (Writer a) hold at
@@ -221,6 +245,7 @@ module _ (sizes : Sizes) where
     current = rule.current;
     borne = rule.borne;
     answers = rule.answers;
+    answered = rule.answered;
     order = rule.order;
     scanned = λ seat view hold e behind. ⊎_elim
         (λ (t : (seat ≡ id) × (Reader h ≡ view)). subst (ArePinsScanned a) (subst (λ (v : View). IsBehind v hold) (sym t.1) behind) met)
@@ -241,6 +266,7 @@ module _ (sizes : Sizes) where
     current = rule.current;
     borne = rule.borne;
     answers = rule.answers;
+    answered = rule.answered;
     order = rule.order;
     scanned = λ seat view hold e behind. ⊎_elim
         (λ (t : get_elem? views seat ≡ some view). rule.scanned seat view hold t behind)
@@ -306,6 +332,7 @@ module _ (sizes : Sizes) where
             (λ (e : j ≢ k). subst (HasVersion b.history) (sym (else j e))
             (ap is_there (placed_grows a.history (p ∷ []) (slot_at a j).version (rule.borne j l)) ∙ rule.borne j l));
         answers = λ j l. absurd (omega arith);
+        answered = λ v f. absurd (none-answered v f);
         order = inl refl;
         scanned = λ seat view hold at behind channel pin e met. absurd (no-answer b refl hold.notes.number channel met);
         kept = λ seat view hold at behind. record {
@@ -357,13 +384,14 @@ module _ (sizes : Sizes) where
           (λ same. apart p e (subst (PinHolds (place_of p) pin.root) same holds)) (u segment holds)
 
   pub segments_filled : (views : List View) (a : Account) (s at w : ℕ) → at < 256 → (IsOfVersion a.history a.version s → ⊥)
+      → ((v : ℕ) → IsAnswered a v → IsOfVersion a.history v s → ⊥)
       → ((seat : ℕ) (view : View) (hold : Hold) → get_elem? views seat ≡ some view → IsBehind view hold → (t : TakenVersion)
       → hold.notes.held ≡ Some t → IsOfVersion a.history t.version s → ⊥)
       → ((seat : ℕ) (view : View) (hold : Hold) → get_elem? views seat ≡ some view → IsBehind view hold → (channel : ℕ) (pin : Pin)
       → pin_of hold.notes channel ≡ Some pin
       → (placed : PlacedVersion) → placed_at a.history pin.version ≡ Some placed → PinHolds (place_of placed) pin.root s → ⊥)
       → SegmentRule sizes views a → SegmentRule sizes views (after_fill a s at w)
-  segments_filled views a s at w few apart free unpinned rule = record {
+  segments_filled views a s at w few apart unanswered free unpinned rule = record {
     filled = (
       length-set a.filled s (a.version + 1) ∙ rule.filled.0,
       λ k. dite (ℕ_discrete k s)
@@ -376,6 +404,7 @@ module _ (sizes : Sizes) where
     current = unwritten_else a s at w a.version few apart rule.current;
     borne = rule.borne;
     answers = rule.answers;
+    answered = λ v f. unwritten_else a s at w v few (unanswered v f) (rule.answered v f);
     order = rule.order;
     scanned = rule.scanned;
     kept = λ seat view hold there behind. record {

@@ -1,6 +1,8 @@
 -- The writer's steps keep the rule.
 use Rattle.std.proofs.Common.{nat_lt, replicate, Option, inl, ◌⊎◌, ◌↔◌, IsSome, zero, suc, Bool, true, false, cond, false-eqb, true-eqb, lt-ltb, le-ltb, eq-eqb, ◌==◌, ◌≡◌, ◌≢◌, ℕ, ◌+◌, ◌<◌, ◌≤◌, List, [], ◌∷◌, ◌++◌, length, get_or, set, sym, refl, ap, ◌∙◌, subst, ⊎_elim, arith, Some, None, All, slice_index_or, length-set, length-append, get_or-set_other, get_or-set_same}
 use Rattle.std.proofs.lemmas.List.{get_or_append_left, get_or_push}
+use Rattle.std.proofs.lemmas.List.Elements.{Contains-push_cases}
+use Rattle.std.specs.List.{Contains}
 use mathlib.Core.Option.{none, some}
 use mathlib.Core.Logic.{dite}
 use native.Mathlib.Decide.{ℕ_discrete}
@@ -21,14 +23,14 @@ use Rattle.ft_shared.specs.declared.law.View.TheVariants.{Spent, Reader, Writer,
 use Rattle.ft_shared.specs.Layout.{current_word}
 use Rattle.ft_shared.specs.Counts.{total, sum_below, pass_sum, one, has_number, grip_of, holders, IsBehind, pin_word, pin_amount}
 use Rattle.ft_shared.specs.History.{HasVersion, HasTakenVersion, HasRead, Agrees}
-use Rattle.ft_shared.specs.Account.{slot_at, no_slot, account_of, new_notes, is_free, answer_of, AreAllSettled, IsHeldSlot, IsBorne, after_begin, after_scan}
-use Rattle.ft_shared.specs.Segments.{ArePinsScanned, slot_answer}
+use Rattle.ft_shared.specs.Account.{slot_at, no_slot, account_of, new_notes, is_free, answer_of, AreAllSettled, IsHeldSlot, IsBorne, IsAnswered, after_begin, after_scan}
+use Rattle.ft_shared.specs.Segments.{IsUnwritten, KeepsHeld, ArePinsScanned, slot_answer}
 use Rattle.ft_shared.specs.Register.{TableState, SeatView, Stands, Fits, amount, scan_count, marks, RegisterRule}
 use Rattle.ft_shared.specs.Plays.{after_give, given_pass, IsScanBegin, IsSlotScan}
 use Rattle.ft_shared.proofs.Sums.{total-set, total-append, set-keeps, numbers-more, amount-le, amount-new, amount-here, amount-scan, amount-met, ltb-next, sum_below-le, holding-sum_below}
-use Rattle.ft_shared.proofs.Segments.{no-answer, segments_still, segments_seat, segments_more}
-use Rattle.ft_shared.proofs.Exact.{slot_exact}
-use Rattle.ft_shared.proofs.Readers.{fewer}
+use Rattle.ft_shared.proofs.Segments.{no-answer, none-answered, keeps_held, kept_still, segments_still, segments_seat, segments_more}
+use Rattle.ft_shared.proofs.Exact.{slot_exact, grips, counting_pass}
+use Rattle.ft_shared.proofs.Readers.{fewer, stands_behind}
 
 none_some : {A : Type 0} (x : A) → None ≡ Some x → ⊥
 none_some x e = cc
@@ -141,7 +143,7 @@ module _ (key : Opening) where
             (λ c pin e. absurd (no-pin a.sizes.channels c pin e))
             (segments_seat key.sizes state.views a b id at refl
             (segments_still key.sizes state.views a b refl refl refl refl refl
-            (λ k. refl) rule.segments.answers rule.segments.order rule.segments.scanned rule.segments));
+            (λ k. refl) rule.segments.answers rule.segments.answered rule.segments.order rule.segments.scanned rule.segments));
         settled = λ i x e. stands_still a b (slice_index_or a.settled i x) refl (λ k. refl) refl (rule.settled i x e);
         each_seat = λ j v e. ⊎_elim (λ (t : get_elem? views j ≡ some v). seats_still state rule id writes b refl (λ k. refl) refl j v t)
             (λ (t : Reader h ≡ v). subst (Fits key b rule.writer j) t (record {
@@ -197,10 +199,11 @@ module _ (key : Opening) where
       → ((k : ℕ) → (slot_at b k).free ≡ true → (k ≢ rule.account.slot) × (holders k state.views ≡ 0))
       → (b.begun ≡ true → sum_below (scan_count b state.views) (key.sizes.readers + 2) ≤ key.sizes.readers)
       → ((k : ℕ) → k < length b.scan → slice_index_or b.scan k None ≡ slot_answer b k)
+      → ((v : ℕ) → IsAnswered b v → IsUnwritten rule.account v)
       → (b.pin_scan ≡ []) ⊎ (length b.scan ≡ key.sizes.readers + 2)
       → ((seat : ℕ) (view : View) (hold : Hold) → get_elem? state.views seat ≡ some view → IsBehind view hold → ArePinsScanned b hold)
       → RegisterRule key record { words = state.words; homes = state.homes; views = set state.views id (Writer b) }
-  scan_at state rule id b at writes is deep versions starts unused told answers order scanned =
+  scan_at state rule id b at writes is deep versions starts unused told answers answered order scanned =
       let a : Account = rule.account in
       let c' : Account = record a {
         slots = b.slots;
@@ -242,7 +245,7 @@ module _ (key : Opening) where
         pins = λ r h lr lc. rule.pins r h lr lc ∙ sym (sum_still state id a c' at refl (pin_amount r h));
         stored = rule.stored;
         segments = segments_seat key.sizes state.views a c' id at refl
-            (segments_still key.sizes state.views a c' refl refl refl refl refl versions answers order scanned rule.segments);
+            (segments_still key.sizes state.views a c' refl refl refl refl refl versions answers answered order scanned rule.segments);
         settled = λ i x e. stands_still a c' (slice_index_or a.settled i x) refl versions refl (rule.settled i x e);
         each_seat = seats_still state rule id writes c' refl versions refl;
       })
@@ -275,10 +278,16 @@ module _ (key : Opening) where
             → RegisterRule key record { words = state.words; homes = state.homes; views = set state.views id (Writer (after_begin z)) })
             (sym same.0)
             (λ t. scan_at state rule id (after_begin rule.account) t same.1 refl rule.deep (λ k. refl) (λ k. refl) rule.unused
-            (λ _. begins_at state rule) (λ k l. absurd (omega arith)) (inl refl)
+            (λ _. begins_at state rule) (λ k l. absurd (omega arith)) (λ v f. absurd (none-answered v f)) (inl refl)
             (λ seat view hold there behind channel pin e met. absurd
             (no-answer (after_begin rule.account) refl hold.notes.number channel met))) at'),
-        (refl, refl),
+        (
+          refl,
+          refl,
+          subst KeepsHeld (sym same.0)
+              (keeps_held key.sizes state.views rule.account id (at' ∙ ap (λ (z : Account). some (Writer z)) same.0) rule.segments),
+          subst (λ (z : Account). (slot_at z z.slot).version ≡ z.version) (sym same.0) rule.bears,
+        ),
       )
 
   -- the next slot was looked at: nobody holds a free slot, and what is counted does not grow
@@ -376,6 +385,63 @@ module _ (key : Opening) where
             λ t. let u = (rule.unused next t).1 in eq-eqb (slot_at rule.account next).start w (omega arith),
           )
 
+  -- what the next slot is answered by was not written since: it is current, or a pass holds it
+  answer_unwritten : (state : TableState) (rule : RegisterRule key state) (k : ℕ) → k < key.sizes.readers + 2 → (v : ℕ)
+      → answer_of rule.account k (get_or state.words (k + 1) 0) ≡ Some v → IsUnwritten rule.account v
+  answer_unwritten state rule k less v e = go (k == rule.account.slot) refl
+    where
+      a : Account
+      a = rule.account
+
+      w : ℕ
+      w = get_or state.words (k + 1) 0
+
+      is-some : (b : Bool) (x : ℕ) → cond b None (Some x) ≡ Some v → (b ≡ false) × (x ≡ v)
+      is-some true x h = absurd (none_some v h)
+      is-some false x h = (refl, cc)
+
+      go : (c : Bool) → (k == a.slot) ≡ c → IsUnwritten a v
+      go true h =
+          let same : k ≡ a.slot = true-eqb k a.slot (sym h) in
+          let is = is-some (is_free a k w) (slot_at a k).version e in
+          subst (IsUnwritten a) (sym (ap (λ (n : ℕ). (slot_at a n).version) same ∙ rule.bears) ∙ is.1) rule.segments.current
+      go false h =
+          let apart : k ≢ a.slot = false-eqb k a.slot (sym h) in
+          let is = is-some (is_free a k w) (slot_at a k).version e in
+          let free : is_free a k w ≡ ((slot_at a k).start == w) = ap (λ (b : Bool). cond b false ((slot_at a k).start == w)) h in
+          let ne : (slot_at a k).start ≢ w = false-eqb (slot_at a k).start w (sym (sym free ∙ is.0)) in
+          let leavers = rule.leavers k less apart in
+          let more : 0 < holders k state.views = positive (holders k state.views)
+          (λ z. ne (leavers ∙ (ap (λ (n : ℕ). w + n) z ∙ omega arith))) in
+          let at = counting_pass (grip_of k) state.views (omega arith) in
+          let g = grips k (at.2).slot (at.2).notes.held at.5 in
+          let stands = stands_behind key state rule at.0 at.1 at.2 at.3 at.4 in
+          let borne = stands.borne g.0 g.1 in
+          subst (IsUnwritten a) (sym borne.1 ∙ (ap (λ (n : ℕ). (slot_at a n).version) g.2 ∙ is.1))
+          ((rule.segments.kept at.0 at.1 at.2 at.3 at.4).held g.0 g.1)
+
+  -- so are all answers with that of the next slot
+  answers_unwritten : (state : TableState) (rule : RegisterRule key state) → length rule.account.scan < key.sizes.readers + 2 → (v : ℕ)
+      → IsAnswered (after_scan rule.account (get_or state.words (length rule.account.scan + 1) 0)) v → IsUnwritten rule.account v
+  answers_unwritten state rule less v f =
+      let a : Account = rule.account in
+      let k : ℕ = length a.scan in
+      ⊎_elim (λ (old : Contains a.scan (Some v)). rule.segments.answered v old)
+      (λ (new : answer_of a k (get_or state.words (k + 1) 0) ≡ Some v). answer_unwritten state rule k less v new)
+      (Contains-push_cases a.scan (answer_of a k (get_or state.words (k + 1) 0)) (Some v) f)
+
+  scan_keeps : (state : TableState) (rule : RegisterRule key state) (id : ℕ) → get_elem? state.views id ≡ some (Writer rule.account)
+      → length rule.account.scan < key.sizes.readers + 2
+      → KeepsHeld (after_scan rule.account (get_or state.words (length rule.account.scan + 1) 0))
+  scan_keeps state rule id at less =
+      let b : Account = after_scan rule.account (get_or state.words (length rule.account.scan + 1) 0) in
+      let k = keeps_held key.sizes state.views rule.account id at rule.segments in
+      record {
+        current = k.current;
+        answered = answers_unwritten state rule less;
+        settled = λ i x l. kept_still rule.account b (slice_index_or rule.account.settled i x) refl refl refl refl (k.settled i x l);
+      }
+
   scanned_at : (state : TableState) (rule : RegisterRule key state) (id : ℕ) → get_elem? state.views id ≡ some (Writer rule.account)
       → id ≡ rule.writer → rule.account.begun ≡ true → length rule.account.scan < rule.account.sizes.readers + 2
       → RegisterRule key record {
@@ -410,7 +476,8 @@ module _ (key : Opening) where
       (sym (get_or-set_other a.slots next k flagged no_slot h)))) in (
         scan_at state rule id b at writes refl (length-set a.slots next flagged ∙ rule.deep)
             (set-keeps (λ (z : Slot). z.version) a.slots next no_slot flagged refl)
-            (set-keeps (λ (z : Slot). z.start) a.slots next no_slot flagged refl) did.0 (λ _. did.1) answers (inl none-yet)
+            (set-keeps (λ (z : Slot). z.start) a.slots next no_slot flagged refl) did.0 (λ _. did.1) answers
+            (answers_unwritten state rule (omega arith)) (inl none-yet)
             (λ seat view hold there behind channel pin e met. absurd (no-answer b none-yet hold.notes.number channel met)),
         did.2,
         λ whole. subst (λ (m : ℕ). sum_below (marks b) (m + 2) ≤ m) (sym n)
@@ -448,7 +515,10 @@ module _ (key : Opening) where
       let X : Account → Type 0 = λ z. get_elem? state.views id ≡ some (Writer z) → length z.scan < z.sizes.readers + 2 → AreAllSettled z
       → IsSome (answer_of z (length z.scan) (get_or state.words (length z.scan + 1) 0))
       ↔ ((length z.scan ≡ z.slot) ⊎ IsHeldSlot z (length z.scan)) in
-      let exact = subst X (sym same.0) (λ t l. slot_exact key state rule id t (omega arith)) at' less in (
+      let exact = subst X (sym same.0) (λ t l. slot_exact key state rule id t (omega arith)) at' less in
+      let K : Account → Type 0 = λ z. get_elem? state.views id ≡ some (Writer z) → length z.scan < z.sizes.readers + 2
+      → KeepsHeld (after_scan z (get_or state.words (length z.scan + 1) 0)) in
+      let keeps' = subst K (sym same.0) (λ t l. scan_keeps state rule id t (omega arith)) at' less in (
         Writer (after_scan e (get_or state.words (length e.scan + 1) 0)),
         keeps,
         tt,
@@ -458,5 +528,5 @@ module _ (key : Opening) where
           views = set state.views id (Writer (after_scan e (get_or state.words (length e.scan + 1) 0)));
         })
             (sym (set-get_or state.words (length e.scan + 1) 0)) did.0,
-        (refl, did.1, did.2, known, refl, borne, exact),
+        (refl, did.1, did.2, known, refl, borne, exact, keeps'),
       )

@@ -7,4 +7,5 @@ pub mod HeldSegments
 pub mod Register
 pub mod Plays
 pub mod Pass
+pub mod Free
 pub mod Inner

@@ -12,6 +12,7 @@ use Rattle.ft_shared.specs.Layout.{current_at, leavers_at, pin_at, segment_at, v
 use Rattle.ft_shared.specs.Counts.{sum_below, pin_of, pin_word}
 use Rattle.ft_shared.specs.History.{placed_at, HasVersion, Agrees, AreSound}
 use Rattle.ft_shared.specs.Account.{hold_of, account_of, slot_at, next_slot, is_free, answer_of, AreAllSettled, IsHeldSlot, IsBorne, IsSettledReader, new_notes, after_note, after_join, after_learning, after_resume, after_begin, after_scan, after_pin_scan, after_read, after_fill, after_clear, after_publish}
+use Rattle.ft_shared.specs.Segments.{KeepsHeld}
 use Rattle.ft_shared.specs.Register.{SeatView, RegisterRule, marks}
 use Rattle.ft_shared.specs.Pass.{note_look, note_take, note_leave, note_word, note_seen, note_heard, pin_from, note_pin, note_unpin, note_pinned_word}
 
@@ -103,15 +104,20 @@ IsPinnedRead channel step before found after = (segment at : ℕ) → at < 256
 
 -- ---- the writer's steps
 
+-- nothing that is known to be held was written since, and the current slot bears the current
+-- version
 abbrev pub IsScanBegin : StepKind
 IsScanBegin step before found after =
     (after ≡ (Writer (after_begin (account_of before.0)), before.1))
     × (step.word ≡ current_at)
+    × KeepsHeld (account_of before.0)
+    × ((slot_at (account_of before.0) (account_of before.0).slot).version
+    ≡ (account_of before.0).version)
 
 -- the slot's version is in the history, a slot that was found free before is found free again, and
 -- a whole scan finds at most as many slots held as there are readers; the versions of settled
 -- passes are those of their slots, and while all are settled a slot is answered that is current or
--- held
+-- held; nothing that is known to be held then was written since
 abbrev pub IsSlotScan : StepKind
 IsSlotScan step before found after =
     (after ≡ (Writer (after_scan (account_of before.0) found), before.1))
@@ -129,6 +135,7 @@ IsSlotScan step before found after =
     → IsSome (answer_of (account_of before.0) (next_slot (account_of before.0)) found)
     ↔ ((next_slot (account_of before.0) ≡ (account_of before.0).slot)
     ⊎ IsHeldSlot (account_of before.0) (next_slot (account_of before.0))))
+    × KeepsHeld (after_scan (account_of before.0) found)
 
 -- the slot is not the current one
 abbrev pub IsClear : StepKind
@@ -175,7 +182,7 @@ IsFill step before found after = (segment at : ℕ) → at < 256
     → after ≡ (Writer (after_fill (account_of before.0) segment at step.first), before.1)
 
 -- it learns that its history is sound, and agrees with what each settled pass has noted; of these
--- there are at most eight
+-- there are at most eight; nothing that is known to be held was written since
 abbrev pub IsLearning : StepKind
 IsLearning step before found after =
     (after ≡ (Writer (after_learning (account_of before.0)), before.1))
@@ -185,6 +192,7 @@ IsLearning step before found after =
     × (length (account_of before.0).settled ≤ 8)
     × (step.word ≡ current_at)
     × AreSound (account_of before.0).sizes.segments (account_of before.0).history
+    × KeepsHeld (account_of before.0)
 
 -- ---- a seat for a reader
 

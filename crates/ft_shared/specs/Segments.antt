@@ -1,5 +1,5 @@
 -- The rule of the segments: what holds of the words of the pool between any two steps.
-use Rattle.std.specs.Prelude.{◌≡◌, ◌⊎◌, ℕ, ◌+◌, ◌<◌, ◌≤◌, if◌then◌else◌, List, [], length, slice_index, slice_index_or, Option, Some, None, IfSome}
+use Rattle.std.specs.Prelude.{◌≡◌, ◌⊎◌, ℕ, ◌+◌, ◌<◌, ◌≤◌, if◌then◌else◌, List, [], length, slice_index, slice_index_or, All, Option, Some, None, IfSome}
 use mathlib.Core.Option.{some}
 use lib.ListN.{get_elem?}
 use Rattle.ft_segments.specs.Walk.{IsOf, SameWords}
@@ -47,6 +47,13 @@ pub record IsKept (account : Account) (hold : Hold) : Type 0 where
   pub pins : (channel : ℕ) (pin : Pin) → pin_of hold.notes channel ≡ Some pin
       → IsStanding account pin
 
+-- Nothing that the writer knows to be held was written since: the segments of the current version,
+-- those of each version that the scan answered, and what each settled pass holds
+pub record KeepsHeld (account : Account) : Type 0 where
+  pub current : IsUnwritten account account.version
+  pub answered : (version : ℕ) → IsAnswered account version → IsUnwritten account version
+  pub settled : All (IsKept account) account.settled
+
 -- A pin that the scan looked at is the one that it found there, or was set from a version that it
 -- answered
 abbrev pub ArePinsScanned : Account → Hold → Type 0
@@ -74,6 +81,8 @@ pub record SegmentRule (sizes : Sizes) (views : List View) (account : Account) :
   -- the scan answered of each slot the version that it bears, or that it was found free
   pub answers : (slot : ℕ) → slot < length account.scan
       → slice_index_or account.scan slot None ≡ slot_answer account slot
+  -- no version that the scan answered was written since
+  pub answered : (version : ℕ) → IsAnswered account version → IsUnwritten account version
   -- pins are looked at after the slots
   pub order : (account.pin_scan ≡ []) ⊎ (length account.scan ≡ sizes.readers + 2)
   -- scanned pins, settled passes included

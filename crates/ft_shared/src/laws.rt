@@ -2,6 +2,10 @@
 //!
 //! The rule holds between any two steps, since each step keeps it. So what follows from it holds
 //! between any two steps too.
+//!
+//! A law over `RegisterRule` says what is so of the words and views of a whole table. No caller has
+//! these at hand, so none outside of this crate can use it: callers have the clauses `kept` of
+//! `begin_scan`, `scan_slot` and `settle`, `agrees` and `sound` of `settle`, and what `fill` asks for.
 ghost use Rattle.std.specs.Prelude.{◌≡◌, ◌⊎◌, ℕ, ◌+◌, List, ◌++◌, Some};
 ghost use Rattle.std.specs.List.{slice_get};
 ghost use mathlib.Core.Option.{some};
@@ -25,7 +29,7 @@ ghost use Rattle.ft_shared.specs.Register.{TableState, RegisterRule};
 use ft_segments::held_by_a_pin_is_named;
 
 /// A whole scan has found each segment that is held. So a segment that may be filled is not
-/// held.
+/// held. It is a law over the rule, for readers: no caller can use it.
 pub fn a_whole_scan_finds_each_held_segment()
     ensures found { (key : Opening) (state : TableState) (rule : RegisterRule key state)
         → IsWhole key.sizes rule.account
@@ -39,7 +43,8 @@ pub fn a_whole_scan_finds_each_held_segment()
 }
 
 /// What is held was not written since its version was placed: the segments of the current
-/// version, those of a version that a pass holds, and those that a pin holds.
+/// version, those of a version that a pass holds, and those that a pin holds. It is a law over
+/// the rule, for readers: callers have the clauses `kept`.
 pub fn a_held_segment_is_as_placed()
     ensures current { (key : Opening) (state : TableState) (rule : RegisterRule key state)
         → IsUnwritten rule.account rule.account.version }
@@ -55,7 +60,8 @@ pub fn a_held_segment_is_as_placed()
         → IsPinUnwritten rule.account pin }
 {}
 
-/// The writer's history agrees with the notes of each pass.
+/// The writer's history agrees with the notes of each pass. It is a law over the rule, for
+/// readers: callers have the clauses `agrees` and `all` of `settle`.
 pub fn the_history_agrees_with_each_pass()
     ensures { (key : Opening) (state : TableState) (rule : RegisterRule key state)
         (seat : ℕ) (view : View) (hold : Hold) → get_elem? state.views seat ≡ some view
@@ -90,8 +96,9 @@ pub fn a_longer_history_agrees()
 {}
 
 /// The walk of each version of the history stays among the segments of the pool, and names each
-/// once: those of the writer's history, by the rule, and so that of each version which is found in
-/// it by its number.
+/// once. The clause `history` is over the rule, for readers: callers have the clause `sound` of
+/// `settle`. By the clause `version` each version that is found in such a history by its number is
+/// sound.
 pub fn each_version_is_sound()
     ensures history { (key : Opening) (state : TableState) (rule : RegisterRule key state)
         → AreSound key.sizes.segments rule.account.history }

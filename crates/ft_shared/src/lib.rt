@@ -6,6 +6,7 @@
 //! `RegisterRule` in `specs/Register.antt`; `laws` says what follows from it.
 #![tactic(auto)]
 
+mod free;
 mod law;
 mod laws;
 mod notes;
@@ -21,6 +22,7 @@ mod shared;
 mod table;
 mod writer;
 
+pub use free::{a_scan_counts_what_it_found, a_settled_scan_finds_what_is_held};
 pub use law::{
     Account, Hold, Notes, Pin, PinAnswer, PlacedVersion, Sizes, Slot, TakenVersion, ToldVersion,
     WordRead, WordStep,

@@ -2,6 +2,7 @@
 ghost use Rattle.std.specs.Prelude.{◌≡◌, All, IsSome, IsSomeAnd};
 ghost use Rattle.ft_shared.specs.History.{Agrees, AreSound};
 ghost use Rattle.ft_shared.specs.Account.{after_settle, after_resume, last_settled};
+ghost use Rattle.ft_shared.specs.Segments.{KeepsHeld};
 ghost use Rattle.ft_shared.specs.Pass.{hold_at, resumed_pass};
 
 use crate::plays::{LearnSettled, Resume, Settle};
@@ -19,7 +20,8 @@ pub struct Settled {
 impl Shared {
     /// Gives up a reader's pass. What it held stays held: a version, and its pins. The writer's
     /// history agrees with all that the pass has noted, and with what each settled pass has. The
-    /// walk of each version of the history stays in the pool. Two loads.
+    /// walk of each version of the history stays in the pool. Nothing that is known to be held,
+    /// by this pass too, was written since its version was placed. Two loads.
     pub fn settle(&self, writer: &mut WriterPass, reader: ReaderPass) -> Settled
         requires writer { writer.old.register ≡ self.now }
         requires reader { reader.register ≡ self.now }
@@ -31,6 +33,7 @@ impl Shared {
         ensures all { All (λ hold. Agrees writer.new.account.history hold.notes)
             writer.new.account.settled }
         ensures sound { AreSound self.now.sizes.segments writer.new.account.history }
+        ensures kept { KeepsHeld writer.new.account }
     {
         let (place, kept) = reader.parts();
         self.words.join_seat::<Settle>(&mut writer.place, place);

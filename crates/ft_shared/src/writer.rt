@@ -4,6 +4,7 @@ ghost use Rattle.std.specs.Prelude.{◌≡◌, ◌≢◌, ◌⊎◌, All, ℕ, �
 ghost use Rattle.ft_segments.specs.Walk.{IsSound, walk};
 ghost use Rattle.ft_shared.specs.History.{placed_at, HasVersion};
 ghost use Rattle.ft_shared.specs.Account.{account_of, new_slot, slot_at, no_slot, next_slot, IsWhole, AreAllSettled, IsHeldSlot, IsBorne, after_begin, after_scan, answer_of};
+ghost use Rattle.ft_shared.specs.Segments.{KeepsHeld};
 ghost use Rattle.ft_shared.specs.Pass.{Publishes, writer_at};
 ghost use Rattle.ft_shared.specs.declared.law.View.TheVariants.{Writer};
 
@@ -68,10 +69,15 @@ impl WriterPass {
 }
 
 impl Shared {
-    /// Begins a scan by one load of CURRENT.
+    /// Begins a scan by one load of CURRENT. Nothing that is known to be held was written since
+    /// its version was placed: the segments of the current version, those of each version that
+    /// the scan before this one answered, and what the settled passes hold.
     pub fn begin_scan(&self, pass: &mut WriterPass)
         requires { pass.old.register ≡ self.now }
-        ensures { pass.new ≡ record pass.old { account = after_begin pass.old.account } }
+        ensures noted { pass.new ≡ record pass.old { account = after_begin pass.old.account } }
+        ensures kept { KeepsHeld pass.old.account }
+        ensures bears { (slot_at pass.old.account pass.old.account.slot).version
+            ≡ pass.old.account.version }
     {
         self.words.scan_load::<BeginScan>(&mut pass.place, 0);
     }
@@ -81,7 +87,8 @@ impl Shared {
     ///
     /// A slot once found free is found free by each later scan, until a publish chooses it.
     /// While every reader's pass is settled, the answer is a version exactly for the current
-    /// slot and for those of the versions that these passes hold.
+    /// slot and for those of the versions that these passes hold. What is known to be held then
+    /// was not written since, the segments of the answered version among it.
     pub fn scan_slot(&self, pass: &mut WriterPass, slot: u8) -> Option<u32>
         requires same { pass.old.register ≡ self.now }
         requires begun { pass.old.account.begun ≡ true }
@@ -101,6 +108,7 @@ impl Shared {
         ensures borne { All (IsBorne pass.old.account) pass.old.account.settled }
         ensures exact { AreAllSettled pass.old.account → IsSome result
             ↔ ((slot ≡ pass.old.account.slot) ⊎ IsHeldSlot pass.old.account slot) }
+        ensures kept { KeepsHeld pass.new.account }
     {
         let index = slot as usize;
         let gone = self.words.scan_load::<ScanSlot>(&mut pass.place, index + 1);

@@ -6,10 +6,12 @@ use Rattle.ft_shared.specs.declared.law.Account.{Account}
 use Rattle.ft_shared.specs.declared.law.View.TheVariants.{Writer}
 use Rattle.ft_shared.specs.Account.{account_of, after_join, after_learning}
 use Rattle.ft_shared.specs.History.{Agrees}
+use Rattle.ft_shared.specs.Segments.{KeepsHeld}
 use Rattle.ft_shared.specs.Pass.{hold_at, IsKeptPass}
 use Rattle.ft_shared.specs.Plays.{joined}
 use Rattle.ft_shared.specs.Register.{SeatView}
 use Rattle.ft_shared.proofs.Joins.{settles, learns}
+use Rattle.ft_shared.proofs.Segments.{keeps_learned}
 use Rattle.ft_shared.proofs.Seats.{writer_seated, writer_settled}
 use Rattle.ft_shared.proofs.shared.Shared.settle.Goals as goal
 
@@ -79,3 +81,7 @@ returns-clause-agrees c =
     let here : Agrees a.history h.notes = All-head (λ (k : Hold). Agrees a.history k.notes) h a.settled all in
     subst (λ (m : SeatView). Agrees (account_of m.0).history h.notes)
     (sym (c.scan_load-word.ensures.2.0 ∙ (λ i. (Writer (after_learning (account_of (now i).0)), (now i).1)))) here
+
+pub returns-clause-kept : goal.returns-clause-kept
+returns-clause-kept c = subst (λ (m : SeatView). KeepsHeld (account_of m.0)) (sym c.scan_load-word.ensures.2.0)
+    (keeps_learned c.args.self.now.sizes (account_of c.join_seat.new.place.me.0) c.scan_load-word.ensures.2.6)
