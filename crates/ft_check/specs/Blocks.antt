@@ -4,13 +4,7 @@ use Rattle.ft_types.specs.declared.module.Module.{Module}
 use Rattle.ft_types.specs.declared.pattern.Pattern.{Pattern}
 use Rattle.ft_types.specs.declared.pattern.Cell.{Cell}
 use Rattle.ft_types.specs.Views.{empty_cell}
-use Rattle.ft_edits.specs.Patterns.{in_block, moved}
-use Rattle.ft_check.specs.declared.block.BlockChange.{BlockChange}
-use Rattle.ft_check.specs.declared.block.BlockChange.TheVariants.{Clear, Transpose}
-
-abbrev pub block_changed : BlockChange → Cell → Cell
-block_changed Clear cell = empty_cell
-block_changed (Transpose d) cell = moved d cell
+use Rattle.ft_edits.specs.Patterns.{in_block}
 
 -- a cell of a block changed by its row, its channel and itself; another stays
 abbrev pub blocked : ℕ → ℕ → ℕ → ℕ → ℕ → (ℕ → ℕ → Cell → Cell) → ℕ → Cell → Cell

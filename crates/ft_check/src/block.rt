@@ -6,9 +6,10 @@ ghost use Rattle.ft_types.specs.Views.{empty_cell, rows_at};
 ghost use Rattle.ft_edits.specs.Lists.{each_from};
 ghost use Rattle.ft_edits.specs.Patterns.{with_pattern, with_block, in_block, is_note, moved, moved_note, copied};
 ghost use Rattle.ft_edits.specs.Allowed.{HasBlock};
-ghost use Rattle.ft_check.specs.Blocks.{block_changed, blocked, cells_at, from_rows};
+ghost use Rattle.ft_edits.specs.Changes.{cell_changed};
+ghost use Rattle.ft_check.specs.Blocks.{blocked, cells_at, from_rows};
 
-use ft_types::{Cell, Module, NoMemory, Pattern};
+use ft_types::{Cell, Edit, Module, NoMemory, Pattern};
 use std::alloc::Global;
 
 /// `h` rows of `w` channels from row `r` and channel `c`.
@@ -22,18 +23,6 @@ pub(crate) struct Block {
     pub(crate) h: u16,
     /// Channels.
     pub(crate) w: u8,
-}
-
-/// What becomes of the cells of a block.
-#[derive(Clone, Copy)]
-pub(crate) enum BlockChange {
-    /// They are emptied.
-    Clear,
-    /// Their notes move by so many semitones.
-    Transpose {
-        /// Semitones.
-        d: i8,
-    },
 }
 
 /// Whether a number is a note of 1 to 96.
@@ -54,53 +43,54 @@ fn moved_note(d: i8, note: u8) -> u8
     note
 }
 
-/// A cell of the block after the change.
-fn changed(how: BlockChange, cell: Cell) -> Cell
-    ensures { result ≡ block_changed how cell }
+/// A cell of the block after the edit.
+fn changed(e: &Edit, cell: Cell) -> Cell
+    ensures { result ≡ cell_changed e.now cell }
 {
-    match how {
-        BlockChange::Clear => Cell::EMPTY,
-        BlockChange::Transpose { d } => Cell {
+    match *e {
+        Edit::Clear { .. } => Cell::EMPTY,
+        Edit::Transpose { d, .. } => Cell {
             note: moved_note(d, cell.note),
             ..cell
         },
+        _ => cell,
     }
 }
 
 /// Changes each of some cells.
 #[tactic(auto, using(std::proofs::lemmas::List::Edits::map_over_more))]
-fn change_all(cells: &mut [Cell], how: BlockChange)
-    ensures { cells.new ≡ map (block_changed how) cells.old }
+fn change_all(cells: &mut [Cell], e: &Edit)
+    ensures { cells.new ≡ map (cell_changed e.now) cells.old }
 {
     for cell in cells.iter_mut() {
-        *cell = changed(how, *cell);
+        *cell = changed(e, *cell);
     }
 }
 
 /// Changes the cells of a block.
-fn change_cells(cells: &mut [Cell], channels: usize, block: Block, how: BlockChange)
+fn change_cells(cells: &mut [Cell], channels: usize, block: Block, e: &Edit)
     requires wide { block.c + block.w ≤ channels }
     requires long { (block.r + block.h) * channels ≤ length cells.old }
     ensures { cells.new ≡ each_from (λ place cell.
         if in_block block.r block.c block.h block.w (place / channels) (place % channels)
-        then block_changed how cell else cell) 0 cells.old }
+        then cell_changed e.now cell else cell) 0 cells.old }
 {
     for i in 0..usize::from(block.h) {
         let at = (usize::from(block.r) + i) * channels + usize::from(block.c);
-        change_all(&mut cells[at..at + usize::from(block.w)], how);
+        change_all(&mut cells[at..at + usize::from(block.w)], e);
     }
 }
 
 /// Changes a block of a pattern of the song.
-pub(crate) fn change_block(m: &mut Module, p: u8, block: Block, how: BlockChange)
+pub(crate) fn change_block(m: &mut Module, p: u8, block: Block, e: &Edit)
     requires valid { IsValid m.old }
     requires there { HasBlock m.old p block.r block.c block.h block.w }
     ensures { m.new ≡ with_pattern p (with_block m.old.channels block.r block.c block.h block.w
-        (λ row channel cell. block_changed how cell)) m.old }
+        (λ row channel cell. cell_changed e.now cell)) m.old }
 {
     let channels = usize::from(m.channels);
     match m.patterns.get_mut(usize::from(p)) {
-        Some(pattern) => change_cells(pattern.cells.as_mut_slice(), channels, block, how),
+        Some(pattern) => change_cells(pattern.cells.as_mut_slice(), channels, block, e),
         None => {}
     }
 }

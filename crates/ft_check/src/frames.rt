@@ -1,9 +1,10 @@
 //! Frames, changed in place.
 
-ghost use Rattle.std.specs.Prelude.{◌≡◌, ◌≤◌, ◌<◌, ◌++◌, ◌*ℤ◌, All, FitsSigned, length, take, drop, map, reverse, pos, OnOk, OnErr};
+ghost use Rattle.std.specs.Prelude.{◌≡◌, ◌≤◌, ◌<◌, ◌++◌, ◌*ℤ◌, false, All, FitsSigned, length, take, drop, map, reverse, pos, OnOk, OnErr};
 ghost use Rattle.std.specs.Int.{w8};
 ghost use Rattle.ft_edits.specs.Lists.{with_stretch};
 ghost use Rattle.ft_edits.specs.Samples.{clamped, floor_of, scaled_frame};
+ghost use Rattle.ft_check.specs.Changes.{with_width};
 
 use ft_types::NoMemory;
 
@@ -112,7 +113,7 @@ fn narrowed(x: i16) -> i16
 
 /// Each of some frames of 8 bits in 16.
 #[tactic(auto, using(std::proofs::lemmas::List::Edits::map_over_more))]
-pub(crate) fn widen_all(frames: &mut [i16])
+fn widen_all(frames: &mut [i16])
     requires { All (FitsSigned w8) frames.old }
     ensures { frames.new ≡ map (λ frame. pos 256 *ℤ frame) frames.old }
 {
@@ -123,10 +124,23 @@ pub(crate) fn widen_all(frames: &mut [i16])
 
 /// Each of some frames of 16 bits in 8.
 #[tactic(auto, using(std::proofs::lemmas::List::Edits::map_over_more))]
-pub(crate) fn narrow_all(frames: &mut [i16])
+fn narrow_all(frames: &mut [i16])
     ensures { frames.new ≡ map (λ frame. floor_of frame 256) frames.old }
 {
     for frame in frames.iter_mut() {
         *frame = narrowed(*frame);
+    }
+}
+
+/// Gives frames of 8 bits, or of 16, so many bits.
+pub(crate) fn set_width(frames: &mut Vec<i16>, wide: bool, b: u8)
+    requires { wide ≡ false → All (FitsSigned w8) frames.old.items }
+    ensures { frames.new.items ≡ with_width b wide frames.old.items }
+{
+    if b == 16 && !wide {
+        widen_all(frames.as_mut_slice());
+    }
+    if b != 16 && wide {
+        narrow_all(frames.as_mut_slice());
     }
 }

@@ -1,73 +1,21 @@
-//! Changes of one instrument, done in place.
+//! Edits of an instrument, done in place.
 
 ghost use Rattle.std.specs.Prelude.{◌≡◌, ◌≤◌, ◌<◌, ◌+◌, [], set, length, OnOk, OnErr};
 ghost use Rattle.ft_types.specs.Valid.{IsValid, IsValidInstrument};
 ghost use Rattle.ft_edits.specs.Instruments.{with_instrument, zero_envelope, named_only, with_map, with_envelope, with_head, with_point};
 ghost use Rattle.ft_edits.specs.Samples.{new_sample, with_new_sample, without_sample};
 ghost use Rattle.ft_edits.specs.Lists.{without_last};
-ghost use Rattle.ft_check.specs.Changes.{instrument_changed, SuitsInstrument};
+ghost use Rattle.ft_edits.specs.Allowed.{Allows};
+ghost use Rattle.ft_edits.specs.Changes.{instrument_changed};
+ghost use Rattle.ft_edits.specs.Edited.{edited};
+ghost use Rattle.ft_edits.specs.Groups.{group_of};
+ghost use Rattle.ft_check.specs.Changes.{SuitsInstrument};
 
-use ft_types::{Envelope, Frames, Instrument, Module, NoMemory, Point, Sample, Samples, Vibrato};
+use ft_edits::Group;
+use ft_types::{
+    Edit, Envelope, Frames, Instrument, Module, NoMemory, Point, Sample, Samples, Vibrato,
+};
 use std::alloc::Global;
-
-/// A change of one instrument.
-#[derive(Clone, Copy)]
-pub(crate) enum InstrumentChange {
-    /// Makes it all 0, without samples.
-    Zero,
-    /// Names it.
-    Name {
-        /// Raw bytes.
-        name: [u8; 22],
-    },
-    /// Sets an entry of the note map.
-    Map {
-        /// Note, 0 to 95.
-        n: u8,
-        /// Sample number, 0 to 15.
-        k: u8,
-    },
-    /// Sets the head of an envelope.
-    Head {
-        /// 0 volume, 1 panning.
-        w: u8,
-        /// Points in use.
-        count: u8,
-        /// Sustain point.
-        sus: u8,
-        /// Loop start point.
-        ls: u8,
-        /// Loop end point.
-        le: u8,
-        /// Flags.
-        flags: u8,
-    },
-    /// Sets a point of an envelope.
-    Place {
-        /// 0 volume, 1 panning.
-        w: u8,
-        /// Point, 0 to 11.
-        k: u8,
-        /// Tick.
-        x: u16,
-        /// Value.
-        y: u16,
-    },
-    /// Sets the automatic vibrato.
-    Vib {
-        /// Vibrato.
-        vibrato: Vibrato,
-    },
-    /// Sets the fadeout.
-    Fade {
-        /// Fadeout per tick.
-        n: u16,
-    },
-    /// Appends a sample.
-    MoreSamples,
-    /// Takes the last sample out.
-    FewerSamples,
-}
 
 /// An envelope that is all 0.
 const ZERO_ENVELOPE: Envelope = Envelope {
@@ -141,23 +89,24 @@ fn remove_sample(alloc: Global, instrument: &mut Instrument)
 }
 
 /// Changes an instrument.
-fn change(alloc: Global, instrument: &mut Instrument, how: InstrumentChange) -> Result<(), NoMemory>
+fn change(alloc: Global, instrument: &mut Instrument, e: &Edit) -> Result<(), NoMemory>
     requires valid { IsValidInstrument instrument.old }
-    requires there { SuitsInstrument how }
-    ensures ok { OnOk result (instrument.new ≡ instrument_changed how instrument.old) }
+    requires there { SuitsInstrument e.now }
+    ensures ok { OnOk result (instrument.new ≡ instrument_changed e.now instrument.old) }
     ensures err { OnErr result (instrument.new ≡ instrument.old) }
 {
-    match how {
-        InstrumentChange::Zero => *instrument = named_only(alloc, [0; 22]),
-        InstrumentChange::Name { name } => instrument.name = name,
-        InstrumentChange::Map { n, k } => instrument.map[n as usize] = k,
-        InstrumentChange::Head {
+    match *e {
+        Edit::Clearins { .. } => *instrument = named_only(alloc, [0; 22]),
+        Edit::Insname { name, .. } => instrument.name = name,
+        Edit::Map { n, k, .. } => instrument.map[n as usize] = k,
+        Edit::Env {
             w,
             count,
             sus,
             ls,
             le,
             flags,
+            ..
         } => {
             if w == 0 {
                 set_head(&mut instrument.volume, count, sus, ls, le, flags);
@@ -165,17 +114,30 @@ fn change(alloc: Global, instrument: &mut Instrument, how: InstrumentChange) -> 
                 set_head(&mut instrument.panning, count, sus, ls, le, flags);
             }
         }
-        InstrumentChange::Place { w, k, x, y } => {
+        Edit::Point { w, k, x, y, .. } => {
+            let point = Point { x, y: u16::from(y) };
             if w == 0 {
-                instrument.volume.points[k as usize] = Point { x, y };
+                instrument.volume.points[k as usize] = point;
             } else {
-                instrument.panning.points[k as usize] = Point { x, y };
+                instrument.panning.points[k as usize] = point;
             }
         }
-        InstrumentChange::Vib { vibrato } => instrument.vibrato = vibrato,
-        InstrumentChange::Fade { n } => instrument.fadeout = n,
-        InstrumentChange::MoreSamples => instrument.samples.push(new_sample(alloc))?,
-        InstrumentChange::FewerSamples => remove_sample(alloc, instrument),
+        Edit::Vib {
+            kind,
+            sweep,
+            depth,
+            rate,
+            ..
+        } => instrument.vibrato = Vibrato {
+            kind,
+            sweep,
+            depth,
+            rate,
+        },
+        Edit::Fade { n, .. } => instrument.fadeout = n,
+        Edit::Newsmp { .. } => instrument.samples.push(new_sample(alloc))?,
+        Edit::Delsmp { .. } => remove_sample(alloc, instrument),
+        _ => {}
     }
     Ok(())
 }
@@ -186,15 +148,36 @@ pub(crate) fn change_instrument(
     alloc: Global,
     m: &mut Module,
     i: u8,
-    how: InstrumentChange,
+    e: &Edit,
 ) -> Result<(), NoMemory>
     requires valid { IsValid m.old }
-    requires there { SuitsInstrument how }
-    ensures ok { OnOk result (m.new ≡ with_instrument i (instrument_changed how) m.old) }
+    requires there { SuitsInstrument e.now }
+    ensures ok { OnOk result (m.new ≡ with_instrument i (instrument_changed e.now) m.old) }
     ensures err { OnErr result (m.new ≡ m.old) }
 {
     match m.instruments.get_mut(usize::from(i).saturating_sub(1)) {
-        Some(instrument) => change(alloc, instrument, how),
+        Some(instrument) => change(alloc, instrument, e),
         None => Ok(()),
+    }
+}
+
+/// Does an edit of an instrument.
+pub(crate) fn change_instruments(alloc: Global, m: &mut Module, e: &Edit) -> Result<(), NoMemory>
+    requires group { group_of e.now ≡ Group.Instruments }
+    requires valid { IsValid m.old }
+    requires there { Allows m.old e.now }
+    ensures ok { OnOk result (m.new ≡ edited m.old e.now) }
+    ensures err { OnErr result (m.new ≡ m.old) }
+{
+    match *e {
+        Edit::Newins => m.instruments.push(named_only(alloc, [0; 22])),
+        Edit::Clearins { i }
+        | Edit::Insname { i, .. }
+        | Edit::Map { i, .. }
+        | Edit::Env { i, .. }
+        | Edit::Point { i, .. }
+        | Edit::Vib { i, .. }
+        | Edit::Fade { i, .. } => change_instrument(alloc, m, i, e),
+        _ => Ok(()),
     }
 }

@@ -2,10 +2,7 @@
 #![tactic(auto)]
 
 mod block;
-mod cause;
 mod edit;
-mod fault;
-mod fields;
 mod frames;
 mod instrument;
 mod pattern;

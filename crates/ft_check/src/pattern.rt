@@ -1,43 +1,20 @@
-//! Changes of one pattern, done in place.
+//! Edits of a pattern, done in place.
 
 ghost use Rattle.std.specs.Prelude.{◌≡◌, ◌≤◌, ◌<◌, ◌+◌, ◌-◌, ◌*◌, ◌++◌, length, take, drop, set, replicate, OnOk, OnErr};
 ghost use Rattle.ft_types.specs.Valid.{IsValid, IsValidPattern};
 ghost use Rattle.ft_types.specs.Views.{empty_cell, rows_at};
 ghost use Rattle.ft_edits.specs.Patterns.{with_pattern, with_cell, with_rows, with_new_row, without_row, empty_rows};
-ghost use Rattle.ft_check.specs.Changes.{pattern_changed, SuitsRows};
+ghost use Rattle.ft_edits.specs.Allowed.{Allows};
+ghost use Rattle.ft_edits.specs.Changes.{pattern_changed};
+ghost use Rattle.ft_edits.specs.Edited.{edited};
+ghost use Rattle.ft_edits.specs.Groups.{group_of};
+ghost use Rattle.ft_check.specs.Changes.{SuitsRows};
 
-use ft_types::{Cell, Cells, Module, NoMemory, Pattern};
+use crate::block::{Block, change_block, copy_block};
+use ft_edits::Group;
+use ft_types::{Cell, Cells, Edit, Module, NoMemory, Pattern};
 use std::alloc::Global;
 use std::mem;
-
-/// A change of one pattern. Rows and channels count from 0.
-#[derive(Clone, Copy)]
-pub(crate) enum PatternChange {
-    /// Sets a cell.
-    Put {
-        /// Row.
-        r: u16,
-        /// Channel.
-        c: u8,
-        /// Cell.
-        cell: Cell,
-    },
-    /// Gives it so many rows.
-    Resize {
-        /// Rows, 1 to 256.
-        n: u16,
-    },
-    /// Puts an empty row before a row.
-    InsertRow {
-        /// Row.
-        r: u16,
-    },
-    /// Takes a row out.
-    RemoveRow {
-        /// Row.
-        r: u16,
-    },
-}
 
 /// Sets the cell at a place, if there is one.
 fn put(cells: &mut Cells, at: usize, cell: Cell)
@@ -94,7 +71,6 @@ fn row_last(cells: &mut [Cell], channels: usize)
 }
 
 /// Puts an empty row at a place; the last one drops out.
-
 fn insert_row(cells: &mut [Cell], at: usize, channels: usize)
     requires { at + channels ≤ length cells.old }
     ensures { cells.new ≡ take (length cells.old)
@@ -113,54 +89,94 @@ fn remove_row(cells: &mut [Cell], at: usize, channels: usize)
 }
 
 /// Changes a pattern in a song of so many channels.
-fn change(
-    alloc: Global,
-    pattern: &mut Pattern,
-    channels: u8,
-    change: PatternChange,
-) -> Result<(), NoMemory>
+fn change(alloc: Global, pattern: &mut Pattern, channels: u8, e: &Edit) -> Result<(), NoMemory>
     requires valid { IsValidPattern channels pattern.old }
-    requires there { SuitsRows pattern.old.rows change }
-    ensures ok { OnOk result (pattern.new ≡ pattern_changed channels change pattern.old) }
+    requires there { SuitsRows pattern.old.rows e.now }
+    ensures ok { OnOk result (pattern.new ≡ pattern_changed channels e.now pattern.old) }
     ensures err { OnErr result (pattern.new ≡ pattern.old) }
 {
     let width = usize::from(channels);
-    match change {
-        PatternChange::Put { r, c, cell } => {
+    match *e {
+        Edit::Cell {
+            r,
+            c,
+            note,
+            ins,
+            vol,
+            eff,
+            par,
+            ..
+        } => {
+            let cell = Cell {
+                note,
+                instrument: ins,
+                volume: vol,
+                effect: eff,
+                parameter: par,
+            };
             put(
                 &mut pattern.cells,
                 usize::from(r) * width + usize::from(c),
                 cell,
             );
-            Ok(())
         }
-        PatternChange::Resize { n } => resize(alloc, pattern, channels, n),
-        PatternChange::InsertRow { r } => {
+        Edit::Rows { n, .. } => resize(alloc, pattern, channels, n)?,
+        Edit::Insrow { r, .. } => {
             insert_row(pattern.cells.as_mut_slice(), usize::from(r) * width, width);
-            Ok(())
         }
-        PatternChange::RemoveRow { r } => {
+        Edit::Delrow { r, .. } => {
             remove_row(pattern.cells.as_mut_slice(), usize::from(r) * width, width);
-            Ok(())
         }
+        _ => {}
     }
+    Ok(())
 }
 
 /// Changes a pattern of the song.
-pub(crate) fn change_pattern(
-    alloc: Global,
-    m: &mut Module,
-    p: u8,
-    how: PatternChange,
-) -> Result<(), NoMemory>
+fn change_pattern(alloc: Global, m: &mut Module, p: u8, e: &Edit) -> Result<(), NoMemory>
     requires valid { IsValid m.old }
-    requires there { SuitsRows (rows_at m.old p) how }
-    ensures ok { OnOk result (m.new ≡ with_pattern p (pattern_changed m.old.channels how) m.old) }
+    requires there { SuitsRows (rows_at m.old p) e.now }
+    ensures ok { OnOk result (m.new ≡ with_pattern p (pattern_changed m.old.channels e.now) m.old) }
     ensures err { OnErr result (m.new ≡ m.old) }
 {
     let channels = m.channels;
     match m.patterns.get_mut(usize::from(p)) {
-        Some(pattern) => change(alloc, pattern, channels, how),
+        Some(pattern) => change(alloc, pattern, channels, e),
         None => Ok(()),
+    }
+}
+
+/// Does an edit of a pattern.
+pub(crate) fn change_patterns(alloc: Global, m: &mut Module, e: &Edit) -> Result<(), NoMemory>
+    requires group { group_of e.now ≡ Group.Patterns }
+    requires valid { IsValid m.old }
+    requires there { Allows m.old e.now }
+    ensures ok { OnOk result (m.new ≡ edited m.old e.now) }
+    ensures err { OnErr result (m.new ≡ m.old) }
+{
+    match *e {
+        Edit::Clear { p, r, c, h, w } => {
+            change_block(m, p, Block { r, c, h, w }, e);
+            Ok(())
+        }
+        Edit::Transpose { p, r, c, h, w, .. } => {
+            change_block(m, p, Block { r, c, h, w }, e);
+            Ok(())
+        }
+        Edit::Copy {
+            p,
+            r,
+            c,
+            h,
+            w,
+            q,
+            r2,
+            c2,
+        } => copy_block(alloc, m, p, r, c, q, Block { r: r2, c: c2, h, w }),
+        Edit::Cell { p, .. }
+        | Edit::Rows { p, .. }
+        | Edit::Insrow { p, .. }
+        | Edit::Delrow { p, .. } => change_pattern(alloc, m, p, e),
+        _ => Ok(()),
     }
 }

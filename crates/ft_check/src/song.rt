@@ -1,14 +1,14 @@
-//! Changes of the song as a whole, done in place.
+//! Edits of the song as a whole, done in place.
 
-ghost use Rattle.std.specs.Prelude.{◌≡◌, ◌≤◌, ◌<◌, ◌+◌, ◌++◌, ◌∷◌, [], length, set, insert, remove, IfOk, OnOk, OnErr};
-ghost use Rattle.ft_types.specs.Valid.{IsValid};
+ghost use Rattle.std.specs.Prelude.{◌≡◌, ◌<◌, set, length, IfOk, OnOk, OnErr};
+ghost use Rattle.ft_edits.specs.Allowed.{Allows};
+ghost use Rattle.ft_edits.specs.Groups.{group_of};
 ghost use Rattle.ft_edits.specs.Lists.{without_last};
-ghost use Rattle.ft_edits.specs.Patterns.{empty_pattern, empty_rows};
-ghost use Rattle.ft_edits.specs.Instruments.{zero_instrument};
-ghost use Rattle.ft_edits.specs.Edited.{without_order};
+ghost use Rattle.ft_edits.specs.Patterns.{empty_pattern};
+ghost use Rattle.ft_edits.specs.Edited.{edited, without_order};
 
-use crate::instrument::named_only;
-use ft_types::{Cell, Cells, Module, NoMemory, Orders, Pattern, Patterns};
+use ft_edits::Group;
+use ft_types::{Cell, Cells, Edit, Module, NoMemory, Orders, Pattern, Patterns};
 use std::alloc::Global;
 
 /// Sets the order at a place, if there is one.
@@ -21,24 +21,8 @@ fn put(orders: &mut Orders, at: u16, p: u8)
     }
 }
 
-/// Sets an order.
-pub(crate) fn set_order(m: &mut Module, pos: u16, p: u8)
-    ensures { m.new ≡ record m.old { orders = set m.old.orders pos p } }
-{
-    put(&mut m.orders, pos, p);
-}
-
-/// Puts an order before a position.
-pub(crate) fn insert_order(m: &mut Module, pos: u16, p: u8) -> Result<(), NoMemory>
-    requires { pos ≤ length m.old.orders }
-    ensures ok { OnOk result (m.new ≡ record m.old { orders = insert m.old.orders pos p }) }
-    ensures err { OnErr result (m.new ≡ m.old) }
-{
-    m.orders.insert(usize::from(pos), p)
-}
-
 /// Takes an order out.
-pub(crate) fn remove_order(m: &mut Module, pos: u16)
+fn remove_order(m: &mut Module, pos: u16)
     requires { pos < length m.old.orders }
     ensures { m.new ≡ without_order pos m.old }
 {
@@ -60,17 +44,6 @@ fn empty_pattern(alloc: Global, channels: u8, n: u16) -> Result<Pattern, NoMemor
     })
 }
 
-/// Appends an empty pattern.
-#[inline(never)]
-pub(crate) fn add_pattern(alloc: Global, m: &mut Module, n: u16) -> Result<(), NoMemory>
-    ensures ok { OnOk result (m.new
-        ≡ record m.old { patterns = m.old.patterns ++ empty_pattern m.old.channels n ∷ [] }) }
-    ensures err { OnErr result (m.new ≡ m.old) }
-{
-    let pattern = empty_pattern(alloc, m.channels, n)?;
-    m.patterns.push(pattern)
-}
-
 /// Takes the last pattern out, if there is one.
 fn remove_last(patterns: &mut Patterns)
     ensures { patterns.new ≡ without_last patterns.old }
@@ -82,20 +55,25 @@ fn remove_last(patterns: &mut Patterns)
     let _gone = patterns.remove(count - 1);
 }
 
-/// Takes the last pattern of the song out.
+/// Does an edit of the song as a whole.
 #[inline(never)]
-pub(crate) fn remove_pattern(m: &mut Module)
-    ensures { m.new ≡ record m.old { patterns = without_last m.old.patterns } }
-{
-    remove_last(&mut m.patterns);
-}
-
-/// Appends an instrument that is all 0.
-#[inline(never)]
-pub(crate) fn add_instrument(alloc: Global, m: &mut Module) -> Result<(), NoMemory>
-    ensures ok { OnOk result (m.new
-        ≡ record m.old { instruments = m.old.instruments ++ zero_instrument ∷ [] }) }
+pub(crate) fn change_song(alloc: Global, m: &mut Module, e: &Edit) -> Result<(), NoMemory>
+    requires group { group_of e.now ≡ Group.Song }
+    requires there { Allows m.old e.now }
+    ensures ok { OnOk result (m.new ≡ edited m.old e.now) }
     ensures err { OnErr result (m.new ≡ m.old) }
 {
-    m.instruments.push(named_only(alloc, [0; 22]))
+    match *e {
+        Edit::Order { pos, p } => put(&mut m.orders, pos, p),
+        Edit::Insorder { pos, p } => m.orders.insert(usize::from(pos), p)?,
+        Edit::Delorder { pos } => remove_order(m, pos),
+        Edit::Restart { pos } => m.restart = pos,
+        Edit::Tempo { n } => m.tempo = n,
+        Edit::Bpm { n } => m.bpm = n,
+        Edit::Title { name } => m.name = name,
+        Edit::Newpat { n } => m.patterns.push(empty_pattern(alloc, m.channels, n)?)?,
+        Edit::Delpat => remove_last(&mut m.patterns),
+        _ => {}
+    }
+    Ok(())
 }

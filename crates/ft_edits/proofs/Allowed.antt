@@ -6,21 +6,21 @@ use Rattle.ft_types.specs.declared.edit.Edit.TheVariants as edits
 use Rattle.ft_types.specs.declared.edit_fault.EditFault.{EditFault}
 use Rattle.ft_types.specs.declared.edit_fault.EditFault.TheVariants.{NoPattern, NoRow, NoChannel, Range, Cut}
 use Rattle.ft_types.specs.Views.{rows_at}
-use Rattle.ft_edits.specs.Faults.{unless, first_of, block_of, sampled, framed, stored, row_of, channel_of, sample_of, samples_at, frames_at, within}
+use Rattle.ft_edits.specs.Faults.{unless, first_of, block_of, sampled, framed, missing_pattern, missing_row, missing_channel, missing_sample, samples_at, frames_at, out_of_range}
 use Rattle.ft_edits.specs.Allowed.{HasBlock, HasFrames}
 use Rattle.ft_edits.specs.Laws.{AllowedIsThere}
 use Rattle.ft_edits.proofs.Causes.{passed, passed_all, both, low, most, ranged}
 
-row_there : (song : Module) (p r : ℕ) → first_of (stored song p ∷ row_of song p r ∷ []) ≡ None → r < rows_at song p
+row_there : (song : Module) (p r : ℕ) → first_of (missing_pattern song p ∷ missing_row song p r ∷ []) ≡ None → r < rows_at song p
 row_there song p r none =
-    let s = passed (nat_lt p (length song.patterns)) (NoPattern p) (row_of song p r ∷ []) none in
+    let s = passed (nat_lt p (length song.patterns)) (NoPattern p) (missing_row song p r ∷ []) none in
     let t = passed (nat_lt r (rows_at song p)) (NoRow r (rows_at song p)) [] s.1 in
     low r (rows_at song p) t.0
 
 block_there : (song : Module) (p r c h w : ℕ) → first_of (block_of song p r c h w) ≡ None → HasBlock song p r c h w
 block_there song p r c h w none =
-    let row : Option EditFault = row_of song p (r + h - 1) in
-    let channel : Option EditFault = channel_of song (c + w - 1) in
+    let row : Option EditFault = missing_row song p (r + h - 1) in
+    let channel : Option EditFault = missing_channel song (c + w - 1) in
     let size : Option EditFault = unless (nat_lt 0 h && nat_lt 0 w) (Range 3 (pos 0)) in
     let s = passed (nat_lt p (length song.patterns)) (NoPattern p) (size ∷ row ∷ channel ∷ []) none in
     let t = passed (nat_lt 0 h && nat_lt 0 w) (Range 3 (pos 0)) (row ∷ channel ∷ []) s.1 in
@@ -36,14 +36,14 @@ block_there song p r c h w none =
 sample_rest : (song : Module) (i s : ℕ) (causes : List (Option EditFault)) → first_of (sampled song i s causes) ≡ None
     → first_of causes ≡ None
 sample_rest song i s causes none =
-    let a = passed (nat_lt 0 i && nat_le i (length song.instruments)) _ (sample_of song i s ∷ causes) none in
+    let a = passed (nat_lt 0 i && nat_le i (length song.instruments)) _ (missing_sample song i s ∷ causes) none in
     let b = passed (nat_lt s (samples_at song i)) _ causes a.1 in
     b.1
 
 some_instrument : (song : Module) (i s : ℕ) (causes : List (Option EditFault))
     → first_of (sampled song i s causes) ≡ None → 0 < i
 some_instrument song i s causes none =
-    let a = passed (nat_lt 0 i && nat_le i (length song.instruments)) _ (sample_of song i s ∷ causes) none in
+    let a = passed (nat_lt 0 i && nat_le i (length song.instruments)) _ (missing_sample song i s ∷ causes) none in
     low 0 i (both (nat_lt 0 i) (nat_le i (length song.instruments)) a.0).0
 
 frames_there : (song : Module) (i s from to : ℕ) (causes : List (Option EditFault))
@@ -77,12 +77,12 @@ allowed song (edits.Delorder position) none =
     low position (length song.orders) s.0
 allowed song (edits.Map i n k) none =
     let h =
-    ranged 7 0 95 n (within 13 0 15 k ∷ []) (sample_rest song i 0 (within 7 0 95 n ∷ within 13 0 15 k ∷ []) none) in
+    ranged 7 0 95 n (out_of_range 13 0 15 k ∷ []) (sample_rest song i 0 (out_of_range 7 0 95 n ∷ out_of_range 13 0 15 k ∷ []) none) in
     h.1
 allowed song (edits.Point i w k x y) none =
-    let rest : List (Option EditFault) = within 7 0 11 k ∷ within 9 0 64 y ∷ [] in
-    let a = ranged 18 0 1 w rest (sample_rest song i 0 (within 18 0 1 w ∷ rest) none) in
-    let b = ranged 7 0 11 k (within 9 0 64 y ∷ []) a.2 in b.1
+    let rest : List (Option EditFault) = out_of_range 7 0 11 k ∷ out_of_range 9 0 64 y ∷ [] in
+    let a = ranged 18 0 1 w rest (sample_rest song i 0 (out_of_range 18 0 1 w ∷ rest) none) in
+    let b = ranged 7 0 11 k (out_of_range 9 0 64 y ∷ []) a.2 in b.1
 allowed song (edits.Cut i s from to) none = (frames_there song i s from to [] none).0
 allowed song (edits.Paste i s at frames) none = (frames_there song i s at at _ none).0
 allowed song (edits.Reverse i s from to) none = (frames_there song i s from to [] none).0

@@ -3,7 +3,7 @@ use Rattle.std.proofs.Common.{◌≡◌, ℕ, ◌<◌, ◌≤◌, Bool, true, fa
 use Rattle.std.specs.Prelude.{◌&&◌, nat_lt, nat_le}
 use Rattle.std.proofs.lemmas.Bool.Decides.{nat_tests}
 use Rattle.ft_types.specs.declared.edit_fault.EditFault.{EditFault}
-use Rattle.ft_edits.specs.Faults.{unless, first_of, within}
+use Rattle.ft_edits.specs.Faults.{unless, first_of, out_of_range}
 
 -- the first cause didn't come, and nor did the others
 pub passed : (test : Bool) (fault : EditFault) (causes : List (Option EditFault))
@@ -28,7 +28,7 @@ pub most : (a b : ℕ) → nat_le a b ≡ true → a ≤ b
 most a b holds = grind (arith, nat_tests)
 
 pub ranged : (field from to found : ℕ) (causes : List (Option EditFault))
-    → first_of (within field from to found ∷ causes) ≡ None → (from ≤ found) × (found ≤ to) × (first_of causes ≡ None)
+    → first_of (out_of_range field from to found ∷ causes) ≡ None → (from ≤ found) × (found ≤ to) × (first_of causes ≡ None)
 ranged field from to found causes none =
     let p = passed _ _ causes none in
     let b = both _ _ p.0 in

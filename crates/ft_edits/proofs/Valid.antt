@@ -15,7 +15,7 @@ use Rattle.ft_types.specs.declared.edit_fault.EditFault.TheVariants.{NoPattern, 
 use Rattle.ft_types.specs.Valid.{IsValid, IsValidPattern, IsValidInstrument, width_of}
 use Rattle.ft_types.specs.Views.{rows_at, rows_in, empty_cell}
 use Rattle.ft_edits.specs.Lists.{without_last}
-use Rattle.ft_edits.specs.Faults.{first_of, fault_of, sampled, framed, samples_at, sample_count, frames_at, wide_at, width_in, instrument_of, sample_of, row_of, channel_of, within}
+use Rattle.ft_edits.specs.Faults.{first_of, fault_of, sampled, framed, samples_at, sample_count, frames_at, wide_at, width_in, missing_instrument, missing_sample, missing_row, missing_channel, out_of_range}
 use Rattle.ft_edits.specs.Patterns.{with_cell, with_rows, with_new_row, without_row, empty_pattern, with_block, moved, copied}
 use Rattle.ft_edits.specs.Instruments.{zero_instrument, with_map, with_envelope, with_head, with_point}
 use Rattle.ft_edits.specs.Samples.{with_new_sample, without_sample, with_loop, without_frames, with_new_frames, turned, scaled, with_bits}
@@ -38,7 +38,7 @@ record HasInstrument (song : Module) (i : ℕ) (causes : List (Option EditFault)
   rest : first_of causes ≡ None
 
 has_instrument : (song : Module) (i : ℕ) (causes : List (Option EditFault))
-    → first_of (instrument_of song i ∷ causes) ≡ None → HasInstrument song i causes
+    → first_of (missing_instrument song i ∷ causes) ≡ None → HasInstrument song i causes
 has_instrument song i causes none =
     let p = passed (nat_lt 0 i && nat_le i (length song.instruments)) _ causes none in
     record { some = low 0 i (both (nat_lt 0 i) (nat_le i (length song.instruments)) p.0).0; rest = p.1 }
@@ -51,7 +51,7 @@ record HasSample (song : Module) (i s : ℕ) (causes : List (Option EditFault)) 
 has_sample : (song : Module) (i s : ℕ) (causes : List (Option EditFault))
     → first_of (sampled song i s causes) ≡ None → HasSample song i s causes
 has_sample song i s causes none =
-    let h = has_instrument song i (sample_of song i s ∷ causes) none in
+    let h = has_instrument song i (missing_sample song i s ∷ causes) none in
     let p = passed (nat_lt s (samples_at song i)) _ causes h.rest in
     record { some = h.some; there = low s (samples_at song i) p.0; rest = p.1 }
 
@@ -127,24 +127,24 @@ pub edited_valid : EditedIsValid
 edited_valid song (edits.Cell p r c note ins vol eff par) v f none =
     let s =
     passed (nat_lt p (length song.patterns)) (NoPattern p)
-    (row_of song p r ∷ channel_of song c ∷ within 1 0 97 note ∷ []) none in
+    (missing_row song p r ∷ missing_channel song c ∷ out_of_range 1 0 97 note ∷ []) none in
     let t =
-    passed (nat_lt r (rows_at song p)) (NoRow r (rows_at song p)) (channel_of song c ∷ within 1 0 97 note ∷ []) s.1
+    passed (nat_lt r (rows_at song p)) (NoRow r (rows_at song p)) (missing_channel song c ∷ out_of_range 1 0 97 note ∷ []) s.1
     in
-    let u = passed (nat_lt c song.channels) (NoChannel c) (within 1 0 97 note ∷ []) t.1 in
+    let u = passed (nat_lt c song.channels) (NoChannel c) (out_of_range 1 0 97 note ∷ []) t.1 in
     let n = ranged 1 0 97 note [] u.1 in
     let cell : Cell = record { note = note; instrument = ins; volume = vol; effect = eff; parameter = par } in
     pattern_kept song p (with_cell song.channels r c cell) v
     (λ pattern valid. cell_kept song.channels r c cell pattern
     (record { note = n.1; instrument = f.0; volume = f.1; effect = f.2; parameter = f.3 }) valid)
 edited_valid song (edits.Rows p n) v f none =
-    let s = passed (nat_lt p (length song.patterns)) (NoPattern p) (within 2 1 256 n ∷ []) none in
+    let s = passed (nat_lt p (length song.patterns)) (NoPattern p) (out_of_range 2 1 256 n ∷ []) none in
     let h = ranged 2 1 256 n [] s.1 in
     pattern_kept song p (with_rows song.channels n) v (λ pattern valid. rows_kept song.channels n pattern h.0 h.1 valid)
 edited_valid song (edits.Insrow p r) v f none =
     pattern_kept song p (with_new_row song.channels r) v (λ pattern valid. new_row_kept song.channels r pattern valid)
 edited_valid song (edits.Delrow p r) v f none =
-    let s = passed (nat_lt p (length song.patterns)) (NoPattern p) (row_of song p r ∷ []) none in
+    let s = passed (nat_lt p (length song.patterns)) (NoPattern p) (missing_row song p r ∷ []) none in
     let t = passed (nat_lt r (rows_at song p)) (NoRow r (rows_at song p)) [] s.1 in
     row_kept song p (without_row song.channels r) v
     (λ pattern found valid. without_row_kept song.channels r pattern

@@ -1,8 +1,12 @@
 pub mod Lists
+pub mod Numbers
+pub mod Groups
 pub mod Faults
+pub mod Sizes
 pub mod Patterns
 pub mod Instruments
 pub mod Samples
+pub mod Changes
 pub mod Edited
 pub mod Apply
 pub mod Versions

@@ -5,6 +5,19 @@
 //! journals are lawful and what the module is at a version. They work on whole lists.
 #![tactic(auto)]
 
+mod cause;
+mod fault;
+mod fields;
+mod group;
 mod laws;
+mod module_sizes;
+mod numbers;
+mod sizes;
 
+pub use fault::fault_of;
+pub use fields::holds_fields;
+pub use group::{Group, group_of};
 pub use laws::{allowed_is_there, valid_stays_valid};
+pub use module_sizes::{ModuleSizes, fault_of_module};
+pub use numbers::{field, kind, most};
+pub use sizes::{SampleSizes, SizeView, SongSizes};

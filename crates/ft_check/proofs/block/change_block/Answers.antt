@@ -3,7 +3,8 @@ use Rattle.ft_types.specs.declared.pattern.Cell.{Cell}
 use Rattle.std.specs.Prelude.{slice_get}
 use Rattle.ft_edits.specs.Lists.{each_from}
 use Rattle.ft_edits.specs.Patterns.{with_block}
-use Rattle.ft_check.specs.Blocks.{block_changed, blocked}
+use Rattle.ft_check.specs.Blocks.{blocked}
+use Rattle.ft_edits.specs.Changes.{cell_changed}
 use Rattle.ft_check.proofs.Changes.{pattern_now, pattern_none}
 use Rattle.ft_check.proofs.BlockCells.{block_long, length_each}
 use Rattle.ft_check.proofs.block.change_block.Goals as goal
@@ -25,7 +26,7 @@ returns-in-Some c =
     let song = c.args.m.now in
     let block = c.args.block in
     let pattern = c.in-Some.pattern.now in
-    let change : ℕ → ℕ → Cell → Cell = λ row channel cell. block_changed c.args.how cell in
+    let change : ℕ → ℕ → Cell → Cell = λ row channel cell. cell_changed c.args.e.now cell in
     let new : c.change_cells.new.cells
     ≡ each_from (blocked song.channels block.r block.c block.h block.w change) 0 pattern.cells =
     c.change_cells.ensures
@@ -43,5 +44,5 @@ pub returns-in-None : goal.returns-in-None
 returns-in-None c =
     pattern_none c.args.m.now c.args.p c.from.result
     (with_block c.args.m.now.channels c.args.block.r c.args.block.c c.args.block.h c.args.block.w
-    (λ row channel cell. block_changed c.args.how cell))
+    (λ row channel cell. cell_changed c.args.e.now cell))
     (omega arith) (sym c.in-None.ensures.value)

@@ -3,10 +3,10 @@ use Rattle.std.proofs.Common.{◌≡◌, ◌/◌, ◌%◌}
 use Rattle.std.specs.Prelude.{if◌then◌else◌}
 use Rattle.ft_edits.specs.Lists.{each_from}
 use Rattle.ft_edits.specs.Patterns.{in_block}
-use Rattle.ft_check.specs.Blocks.{block_changed}
+use Rattle.ft_edits.specs.Changes.{cell_changed}
 use Rattle.ft_check.proofs.block.change_cells.Given as goal
 
 abbrev pub invariant-loop-i : goal.invariant-loop-i
 invariant-loop-i l = l.cells ≡ each_from (λ place cell.
     if in_block l.block.r l.block.c l.i l.block.w (place / l.channels) (place % l.channels)
-    then block_changed l.how cell else cell) 0 l.fn.cells
+    then cell_changed l.e cell else cell) 0 l.fn.cells

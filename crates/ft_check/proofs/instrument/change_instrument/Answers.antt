@@ -1,11 +1,11 @@
 use Rattle.std.proofs.Common.{sym, arith}
-use Rattle.ft_check.specs.Changes.{instrument_changed}
+use Rattle.ft_edits.specs.Changes.{instrument_changed}
 use Rattle.ft_check.proofs.Changes.{ok_so, err_so, instrument_now, instrument_back, instrument_none}
 use Rattle.ft_check.proofs.instrument.change_instrument.Goals as goal
 
 pub returns-in-Some-clause-ok : goal.returns-in-Some-clause-ok
 returns-in-Some-clause-ok c = ok_so c.change.result c.change.ensures.ok (λ new.
-    instrument_now c.args.m.now c.args.i c.saturating_sub.result (instrument_changed c.args.how)
+    instrument_now c.args.m.now c.args.i c.saturating_sub.result (instrument_changed c.args.e.now)
     c.in-Some.instrument.now c.change.new.instrument
     (omega arith) (sym c.in-Some.ensures.value) new)
 
@@ -16,5 +16,5 @@ returns-in-Some-clause-err c = err_so c.change.result c.change.ensures.err (λ s
 
 pub returns-in-None-clause-ok : goal.returns-in-None-clause-ok
 returns-in-None-clause-ok c =
-    instrument_none c.args.m.now c.args.i c.saturating_sub.result (instrument_changed c.args.how) (omega arith)
+    instrument_none c.args.m.now c.args.i c.saturating_sub.result (instrument_changed c.args.e.now) (omega arith)
     (sym c.in-None.ensures.value)

@@ -2,7 +2,7 @@
 use Rattle.std.proofs.Common.{take, All}
 use Rattle.std.specs.Prelude.{FitsSigned}
 use Rattle.std.specs.Int.{w16}
-use Rattle.ft_check.proofs.fields.frames_fit.Given as goal
+use Rattle.ft_edits.proofs.fields.frames_fit.Given as goal
 
 abbrev pub invariant-loop-frame : goal.invariant-loop-frame
 invariant-loop-frame l = All (FitsSigned w16) (take l.frame-index l.frames)

@@ -39,70 +39,37 @@ fn frames_fit(frames: &[i16])
 }
 
 /// The numbers of an edit fit its fields. It does nothing: its contract says so.
-pub(crate) fn holds_fields(e: &Edit)
+pub fn holds_fields(e: &Edit)
     ensures { HoldsFields e.now }
 {
     match e {
         Edit::Cell {
-            p: _,
-            r: _,
-            c: _,
-            note: _,
             ins,
             vol,
             eff,
             par,
+            ..
         } => {
             let _read = (*ins, *vol, *eff, *par);
         }
-        Edit::Order { pos: _, p } => {
-            let _read = *p;
-        }
-        Edit::Insorder { pos: _, p } => {
+        Edit::Order { p, .. } | Edit::Insorder { p, .. } => {
             let _read = *p;
         }
         Edit::Title { name } => title_fits(name),
-        Edit::Insname { i: _, name } => name_fits(name),
-        Edit::Point {
-            i: _,
-            w: _,
-            k: _,
-            x,
-            y: _,
-        } => {
+        Edit::Insname { name, .. } | Edit::Smpname { name, .. } => name_fits(name),
+        Edit::Point { x, .. } => {
             let _read = *x;
         }
-        Edit::Vib {
-            i: _,
-            kind: _,
-            sweep,
-            depth: _,
-            rate: _,
-        } => {
+        Edit::Vib { sweep, .. } => {
             let _read = *sweep;
         }
-        Edit::Fade { i: _, n } => {
+        Edit::Fade { n, .. } => {
             let _read = *n;
         }
-        Edit::Smpname { i: _, s: _, name } => name_fits(name),
-        Edit::Smp {
-            i: _,
-            s: _,
-            vol: _,
-            fine,
-            rel,
-            pan,
-        } => {
+        Edit::Smp { fine, rel, pan, .. } => {
             let _read = (*fine, *rel, *pan);
         }
-        Edit::Paste {
-            i: _,
-            s: _,
-            at: _,
-            frames,
-        } => {
-            frames_fit(frames.as_slice());
-        }
+        Edit::Paste { frames, .. } => frames_fit(frames.as_slice()),
         _ => {}
     }
 }

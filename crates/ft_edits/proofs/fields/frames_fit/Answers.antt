@@ -2,7 +2,7 @@ use Rattle.std.proofs.Common.{rules, pos, get_or}
 use Rattle.std.specs.Prelude.{FitsSigned}
 use Rattle.std.specs.Int.{w16}
 use Rattle.std.proofs.lemmas.List.Elements.{All-more}
-use Rattle.ft_check.proofs.fields.frames_fit.Goals as goal
+use Rattle.ft_edits.proofs.fields.frames_fit.Goals as goal
 
 pub loop-frame-preserved : goal.loop-frame-preserved
 loop-frame-preserved c =
