@@ -54,6 +54,9 @@ expect 0 '' step "$silence" out.wav out.ledger --rate 8000 --seconds 1
 wav 32044
 expect 0 '' step --seconds 2 "$silence" --rate 8000 out.wav out.ledger
 wav 64044
+# and ten words
+expect 0 '' step "$silence" out.wav out.ledger --seconds 1 --segments 64 --rate 8000
+wav 32044
 absent out.ledger
 expect 2 - step "$silence" out.wav out.ledger --rate 8000 --seconds
 absent out.wav
@@ -104,6 +107,8 @@ expect 5 'xmstudio: output could not be written' copy "$silence" /dev/full
 expect 0 '' step seven.xm out.wav out.ledger --rate=8000 --seconds=1
 wav 32044
 expect 7 'xmstudio: pool too small: 425 over 424' step seven.xm out.wav out.ledger --segments=424
+# in ten words, the last of which counts
+expect 7 'xmstudio: pool too small: 425 over 424' step seven.xm out.wav out.ledger --rate 8000 --seconds 1 --segments 424
 absent out.wav
 absent out.ledger
 expect 0 '' step seven.xm out.wav out.ledger --rate=8000 --seconds=1 --segments=425

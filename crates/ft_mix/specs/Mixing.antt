@@ -1,12 +1,12 @@
 -- What is mixed, the sums of both sides, and what mixing leaves.
-use Rattle.std.specs.Prelude.{ℕ, ◌+◌, ◌-◌, ◌*◌, ◌^◌, ◌/◌, ◌==◌, ◌&&◌, ◌<◌, ◌≤◌, Bool, nat_le, if◌then◌else◌, FitsSigned, ◌≡◌, ◌≢◌, ◌≤ℤ◌, ◌+ℤ◌, ◌-ℤ◌, ℤ, pos, true, false, List, [], ◌∷◌, Option, Some, get_or}
+use Rattle.std.specs.Prelude.{ℕ, ◌+◌, ◌-◌, ◌*◌, ◌^◌, ◌/◌, ◌==◌, ◌&&◌, ◌<◌, ◌≤◌, ◌%◌, Bool, min, nat_le, nat_lt, if◌then◌else◌, FitsSigned, ◌≡◌, ◌≢◌, ◌≤ℤ◌, ◌+ℤ◌, ◌-ℤ◌, ℤ, pos, true, false, List, [], ◌∷◌, Option, Some, get_or}
 use Rattle.std.specs.Int.{w16}
 use Rattle.ft_types.specs.declared.voice.SampleHead.{SampleHead}
 use Rattle.ft_types.specs.declared.voice.Voice.{Voice}
 use Rattle.ft_types.specs.Views.{Owned, Shown}
 use Rattle.ft_types.specs.Work.{frame_bound, word_of, body_of}
 use Rattle.ft_replay.specs.Range.{IsVoiceInRange}
-use Rattle.ft_replay.specs.Sound.{place_of, value_in, value_at, gained, left_of, right_of, voices_sum, clipped, is_ended}
+use Rattle.ft_replay.specs.Sound.{end_of, loop_turn, place_of, value_in, value_at, gained, left_of, right_of, voices_sum, clipped, is_ended}
 use Rattle.ft_mix.specs.declared.piece.Piece.{Piece}
 use Rattle.ft_mix.specs.declared.piece.Pieces.{Pieces}
 
@@ -37,6 +37,23 @@ pub record IsPieceOf (head : SampleHead) (at : ℕ) (piece : Piece) : Type 0 whe
   pub some : 1 ≤ piece.frames
   pub up : piece.down ≡ false → piece.place + piece.frames ≤ head.frames
   pub down : piece.down ≡ true → (piece.place < head.frames) × (piece.frames ≤ piece.place + 1)
+
+-- how many frames a voice goes straight on in a loop, some steps into a turn: up to the loop's last
+-- frame, or back down to its first
+abbrev pub straight_in : SampleHead → ℕ → ℕ
+straight_in head steps =
+    if nat_lt steps head.loop_len then min head.loop_len (loop_turn head) - steps
+    else loop_turn head - steps
+
+-- and from a place on that counts on through the turns
+unfoldable pub straight_on : SampleHead → ℕ → ℕ
+straight_on head at =
+    if nat_lt at (end_of head) then end_of head - at
+    else straight_in head ((at - head.loop_start) % loop_turn head)
+
+-- in two pieces, one after the other
+abbrev pub straight_twice : SampleHead → ℕ → ℕ
+straight_twice head at = straight_on head at + straight_on head (at + straight_on head at)
 
 -- one piece, or two, in which so many frames lie from a place on
 pub record ArePiecesOf (head : SampleHead) (at many : ℕ) (pieces : Pieces) : Type 0 where

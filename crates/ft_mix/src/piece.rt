@@ -1,6 +1,6 @@
 //! How far a voice goes straight on in its sample.
 
-ghost use Rattle.std.specs.Prelude.{◌≤◌, ◌<◌, ◌^◌, IfSome};
+ghost use Rattle.std.specs.Prelude.{◌≡◌, ◌≤◌, ◌<◌, ◌^◌, IfSome, None};
 ghost use Rattle.ft_types.specs.Valid.{IsValidHead};
 ghost use Rattle.ft_mix.specs.Mixing as mixing;
 
@@ -20,11 +20,12 @@ pub struct Piece {
 
 /// The piece of a looped sample that a voice reaches at `at`, where `at` counts on through the turns
 /// of the loop.
-#[tactic(auto, unfolding(ft_replay::specs::Sound::place_of))]
+#[tactic(auto, unfolding(ft_replay::specs::Sound::place_of, crate::specs::Mixing::straight_on))]
 pub fn piece_at(head: &SampleHead, at: u32) -> Piece
     requires head { IsValidHead head.now }
     requires looped { 1 ≤ head.now.loop_kind }
-    ensures { mixing.IsPieceOf head.now at result }
+    ensures piece { mixing.IsPieceOf head.now at result }
+    ensures whole { result.frames ≡ mixing.straight_on head.now at }
 {
     let end = end(head);
     if at < end {
@@ -61,14 +62,15 @@ pub struct Pieces {
     pub second: Piece,
 }
 
-/// The pieces in which so many frames lie that a voice reaches from `at` on; none where they are more
-/// than two.
+/// The pieces in which that many frames lie, which a voice reaches from `at` on; none exactly where
+/// they are more than two.
 pub fn pieces_of(head: &SampleHead, at: u32, many: u32) -> Option<Pieces>
     requires head { IsValidHead head.now }
     requires looped { 1 ≤ head.now.loop_kind }
     requires at { at < 2 ^ 24 }
     requires many { many < 2 ^ 24 }
-    ensures { IfSome result (mixing.ArePiecesOf head.now at many) }
+    ensures pieces { IfSome result (mixing.ArePiecesOf head.now at many) }
+    ensures more { result ≡ None → mixing.straight_twice head.now at < many }
 {
     let first = piece_at(head, at);
     if first.frames >= many {

@@ -1,7 +1,7 @@
 //! The places of a sample that are reached, and their values.
 
 ghost use Rattle.std.specs.Prelude.{◌≡◌, ◌≤◌, ◌<◌, ◌+◌, ◌*◌, ℕ, None, IfSome, FitsSigned, length, get_or};
-ghost use Rattle.ft_types.specs.Valid.{width_of, IsValidHead};
+ghost use Rattle.ft_types.specs.Valid.{width_of, IsValidHead, IsValidLoop};
 ghost use Rattle.ft_types.specs.Work as work_of;
 ghost use Rattle.ft_replay.specs.Sound as sound;
 ghost use Rattle.ft_mix.specs.Mixing as mixing;
@@ -10,7 +10,9 @@ use ft_types::{SampleHead, SongView};
 
 /// The steps of a turn of a loop, at least 1, after which it is at its first frame again.
 pub fn turn(head: &SampleHead) -> u32
-    requires head { IsValidHead head.now }
+    requires few { head.now.frames ≤ 3932160 }
+    requires looping { IsValidLoop head.now.loop_kind head.now.loop_start head.now.loop_len
+        head.now.frames }
     requires looped { 1 ≤ head.now.loop_kind }
     ensures value { result ≡ sound.loop_turn head.now }
     ensures some { 1 ≤ result }
@@ -24,7 +26,9 @@ pub fn turn(head: &SampleHead) -> u32
 
 /// The frame of a loop, from its first, so many steps into a turn.
 fn reflected(head: &SampleHead, steps: u32) -> u32
-    requires head { IsValidHead head.now }
+    requires few { head.now.frames ≤ 3932160 }
+    requires looping { IsValidLoop head.now.loop_kind head.now.loop_start head.now.loop_len
+        head.now.frames }
     requires looped { 1 ≤ head.now.loop_kind }
     requires steps { steps < sound.loop_turn head.now }
     ensures value { result ≡ sound.reflected head.now steps }
@@ -49,10 +53,13 @@ pub fn end(head: &SampleHead) -> u32
 }
 
 /// The place of the frame that a voice reaches at `i`, counted from the sample's first frame; `i`
-/// counts on through the turns of a loop. None exactly past the end of a sample without loop.
+/// counts on through the turns of a loop. None exactly past the end of a sample without loop, so
+/// always where the sample has no frames.
 #[tactic(auto, unfolding(ft_replay::specs::Sound::place_of))]
 pub fn place(head: &SampleHead, i: u32) -> Option<u32>
-    requires { IsValidHead head.now }
+    requires few { head.now.frames ≤ 3932160 }
+    requires looping { IsValidLoop head.now.loop_kind head.now.loop_start head.now.loop_len
+        head.now.frames }
     ensures value { result ≡ sound.place_of head.now i }
     ensures within { IfSome result (λ place. place < head.now.frames) }
 {

@@ -68,8 +68,8 @@ fn copy_voices(from: &ArrayVec<Voice, 32>, to: &mut ArrayVec<Voice, 32>)
 /// mixer was given them, at their first frame and by ascending channel.
 ///
 /// The rate is 8,000 to 48,000 frames a second. The view has the song's channels, and keeps the
-/// sample of each voice on its channel. It does so after the tick; and where it kept one exactly
-/// where there was a voice, it does so again.
+/// sample of each voice on its channel. It does so after the tick. Each channel that kept a sample
+/// exactly where it had a voice does so again. Channels past the song's own stay as they are.
 pub fn play_tick<V: SongView>(
     view: &mut V,
     song: &mut SongState,
@@ -98,11 +98,12 @@ pub fn play_tick<V: SongView>(
     ensures rest { drop (2 * result.frames) out.new ≡ drop (2 * result.frames) out.old }
     ensures many { length out.new ≡ length out.old }
     ensures kept { calls.AreVoicesKept (V.keeps view.new) song.new.voices.items }
-    ensures exact { calls.AreVoicesExact (V.holds view.old) song.old.voices.items
-        → calls.AreVoicesExact (V.holds view.new) song.new.voices.items }
+    ensures exact { calls.StaysExact (V.holds view.old) (V.holds view.new)
+        song.old.voices.items song.new.voices.items }
     ensures wide { length (V.holds view.new) ≡ length (V.holds view.old) }
     ensures range { IsSongInRange song.new }
     ensures used { song.new.used ≡ song.old.used }
+    ensures past { drop song.old.used song.new.channels ≡ drop song.old.used song.old.channels }
     ensures some_frames { 1 ≤ result.frames }
     ensures few_frames { result.frames ≤ 3750 }
     ensures work { (V.work view.old ≤ V.work view.new)

@@ -1,3 +1,4 @@
 mod Firsts
+mod OneVersion
 mod Replays
 mod Worked

@@ -86,16 +86,15 @@ AreKept keeps channels =
     (c : ℕ) → c < length channels → IsKept keeps c (get_or channels c blank_channel).voice
 
 -- a channel keeps a sample exactly where it has a voice
-abbrev pub AreExact : List Bool → List Channel → Type 0
-AreExact held channels =
-    (c : ℕ) → c < length channels
-    → get_or held c false ≡ is_some (get_or channels c blank_channel).voice
+abbrev pub IsExact : List Bool → List Channel → ℕ → Type 0
+IsExact held channels c = get_or held c false ≡ is_some (get_or channels c blank_channel).voice
 
--- the same for all channels
+-- the same for all channels: each that kept a sample exactly where it had a voice does so again
 pub record KeepsForAll (before after : ℕ → SampleHead → Type 0) (held held_after : List Bool)
     (channels channels_after : List Channel) : Type 0 where
   pub kept : AreKept before channels → AreKept after channels_after
-  pub exact : AreExact held channels → AreExact held_after channels_after
+  pub exact : (c : ℕ) → c < length channels → IsExact held channels c
+      → IsExact held_after channels_after c
   pub many : length channels_after ≡ length channels
   pub wide : length held_after ≡ length held
 
@@ -104,18 +103,27 @@ pub record KeepsForAll (before after : ℕ → SampleHead → Type 0) (held held
 abbrev pub AreVoicesKept : (ℕ → SampleHead → Type 0) → List Voice → Type 0
 AreVoicesKept keeps voices = All (λ voice. keeps voice.channel voice.head) voices
 
--- whether a voice stands on a channel
+-- whether a voice sounds on a channel
 abbrev pub sounds_on : ℕ → List Voice → Bool
 sounds_on c [] = false
 sounds_on c (voice ∷ voices) = (voice.channel == c) || sounds_on c voices
 
--- a channel keeps a sample exactly where a voice stands on it
+-- a channel keeps a sample exactly where a voice sounds on it
+abbrev pub IsVoiceExact : List Bool → List Voice → ℕ → Type 0
+IsVoiceExact held voices c = get_or held c false ≡ sounds_on c voices
+
+-- and each of them does
 abbrev pub AreVoicesExact : List Bool → List Voice → Type 0
-AreVoicesExact held voices = (c : ℕ) → c < length held → get_or held c false ≡ sounds_on c voices
+AreVoicesExact held voices = (c : ℕ) → c < length held → IsVoiceExact held voices c
+
+-- each channel that kept a sample exactly where a voice sounded on it does so again
+abbrev pub StaysExact : List Bool → List Bool → List Voice → List Voice → Type 0
+StaysExact held held_after voices voices_after =
+    (c : ℕ) → c < length held → IsVoiceExact held voices c → IsVoiceExact held_after voices_after c
 
 -- before and after a call between ticks
 pub record KeepsVoices (before after : ℕ → SampleHead → Type 0) (held held_after : List Bool)
     (voices voices_after : List Voice) : Type 0 where
   pub kept : AreVoicesKept before voices → AreVoicesKept after voices_after
-  pub exact : AreVoicesExact held voices → AreVoicesExact held_after voices_after
+  pub exact : StaysExact held held_after voices voices_after
   pub wide : length held_after ≡ length held

@@ -6,7 +6,7 @@ use Rattle.ft_types.specs.declared.voice.SampleHead.{SampleHead}
 use Rattle.ft_types.specs.declared.voice.Voice.{Voice}
 use Rattle.ft_replay.specs.declared.state.Channel.{Channel}
 use Rattle.ft_replay.specs.State.{blank_channel}
-use Rattle.ft_replay.specs.Calls.{IsKept, KeepsFor, KeepsForAll}
+use Rattle.ft_replay.specs.Calls.{IsExact, IsKept, KeepsFor, KeepsForAll}
 use Rattle.ft_replay.specs.Range.{IsChannelInRange, AreInRange}
 
 -- a number is another, or it isn't
@@ -46,15 +46,12 @@ keeps_one before after held held_after channels c channel lt k =
           (λ ne. subst (λ (x : Channel). IsKept after d x.voice)
           (sym (get_or-set_other channels c d channel blank_channel ne))
           (stays before after d (get_or channels d blank_channel).voice (λ h. k.others d h ne) (p d (omega (arith, length-set channels c channel)))));
-      exact = λ p d within. either c d
-          (get_or held_after d false ≡ is_some (get_or (set channels c channel) d blank_channel).voice)
-          (λ is. subst
-          (λ (e : ℕ). get_or held_after e false ≡ is_some (get_or (set channels c channel) e blank_channel).voice)
-          (sym is)
-          (k.exact (p c lt) ∙ ap (λ (x : Channel). is_some x.voice) (sym here)))
+      exact = λ d within p. either c d (IsExact held_after (set channels c channel) d)
+          (λ is. subst (IsExact held_after (set channels c channel)) (sym is)
+          (k.exact (subst (IsExact held channels) is p) ∙ ap (λ (x : Channel). is_some x.voice) (sym here)))
           (λ ne. ap (λ (l : List Bool). get_or l d false) k.alone
           ∙ get_or-set_other held c d (get_or held_after c false) false ne
-          ∙ p d (omega (arith, length-set channels c channel))
+          ∙ p
           ∙ ap (λ (x : Channel). is_some x.voice) (sym (get_or-set_other channels c d channel blank_channel ne)));
       many = length-set channels c channel;
       wide = ap (λ (l : List Bool). length l) k.alone ∙ length-set held c (get_or held_after c false);
@@ -64,7 +61,7 @@ pub keeps_then : (a b c : ℕ → SampleHead → Type 0) (h k l : List Bool) (x 
     → KeepsForAll b c k l y z → KeepsForAll a c h l x z
 keeps_then a b c h k l x y z p q = record {
   kept = λ s. q.kept (p.kept s);
-  exact = λ s. q.exact (p.exact s);
+  exact = λ c lt s. q.exact c (omega (arith, p.many)) (p.exact c lt s);
   many = q.many ∙ p.many;
   wide = q.wide ∙ p.wide;
 }
@@ -88,7 +85,7 @@ pub keeps_lead : (a b c : ℕ → SampleHead → Type 0) (h k l : List Bool) (x 
     → KeepsForAll b c k l x y → KeepsForAll a c h l x y
 keeps_lead a b c h k l x y on same p = record {
   kept = λ s. p.kept (λ d lt. stays a b d (get_or x d blank_channel).voice (on d) (s d lt));
-  exact = λ s. p.exact (λ d lt. ap (λ (m : List Bool). get_or m d false) same ∙ s d lt);
+  exact = λ d lt s. p.exact d lt (ap (λ (m : List Bool). get_or m d false) same ∙ s);
   many = p.many;
   wide = p.wide ∙ ap (λ (m : List Bool). length m) same;
 }
@@ -99,7 +96,7 @@ pub keeps_same : (a c : ℕ → SampleHead → Type 0) (h l : List Bool) (x y z 
     → KeepsForAll a c h l y z → KeepsForAll a c h l x z
 keeps_same a c h l x y z many voices p = record {
   kept = λ s. p.kept (λ d lt. subst (IsKept a d) (sym (voices d (omega arith))) (s d (omega arith)));
-  exact = λ s. p.exact (λ d lt. s d (omega arith) ∙ ap is_some (sym (voices d (omega arith))));
+  exact = λ d lt s. p.exact d (omega arith) (s ∙ ap is_some (sym (voices d lt)));
   many = p.many ∙ many;
   wide = p.wide;
 }
@@ -111,10 +108,10 @@ keeps_after a c h l x y z many voices p = record {
   kept =
       λ s d lt.
       let inside : d < length y = omega arith in subst (IsKept c d) (sym (voices d inside)) (p.kept s d inside);
-  exact = λ s d lt. let inside : d < length y = omega arith in p.exact s d inside ∙ ap is_some (sym (voices d inside));
+  exact = λ d lt s. p.exact d lt s ∙ ap is_some (sym (voices d (omega (arith, p.many))));
   many = many ∙ p.many;
   wide = p.wide;
 }
 
 pub keeps_here : (a : ℕ → SampleHead → Type 0) (h : List Bool) (x : List Channel) → KeepsForAll a a h h x x
-keeps_here a h x = record { kept = λ s. s; exact = λ s. s; many = refl; wide = refl }
+keeps_here a h x = record { kept = λ s. s; exact = λ c lt s. s; many = refl; wide = refl }

@@ -6,7 +6,7 @@ use Rattle.ft_types.specs.declared.voice.Voice.{Voice}
 use Rattle.ft_replay.specs.declared.state.Channel.{Channel}
 use Rattle.ft_replay.specs.declared.state.Control.{Control}
 use Rattle.ft_replay.specs.State.{blank_channel}
-use Rattle.ft_replay.specs.Calls.{KeepsForAll, KeepsVoices, AreVoicesKept, AreKept, AreExact, sounds_on}
+use Rattle.ft_replay.specs.Calls.{KeepsForAll, KeepsVoices, AreVoicesKept, AreKept, IsExact, sounds_on}
 use Rattle.ft_replay.specs.Range.{IsBetweenTicks, IsInRange, IsControlInRange, AreInRange}
 use Rattle.ft_replay.specs.Standing.{seated, gathered, emptied}
 use Rattle.ft_tick.proofs.Seating.{gathered_ascend, gathered_state}
@@ -45,16 +45,14 @@ parts_keep before after held held_after used time next channels seats made voice
     record {
       kept = λ v. subst (AreVoicesKept after) (sym o) (gathered_kept after made range.channels (k.kept
           (subst (AreKept before) (sym sits) (seated_kept before 0 used (take used channels) voices p.ascend (omega (arith, length-take used channels)) v (none_kept before (take used channels) empty)))));
-      exact = λ x c lt.
-          let w = k.wide in
+      exact = λ c lt x.
           let inside : c < length made = omega arith in
-          let sat : AreExact held seats = λ d within.
-          let below : d < length (take used channels) = omega (arith, length-take used channels) in
-          x d (omega arith)
-          ∙ ap (λ (v : Option Voice). is_some v || sounds_on d voices) (sym (empty d below))
-          ∙ sym (seated_sounds (take used channels) voices d below)
-          ∙ ap (λ (l : List Channel). is_some (get_or l d blank_channel).voice) (sym sits) in
-          k.exact sat c inside ∙ gathered_sounds made c range.channels inside ∙ ap (sounds_on c) (sym o);
+          let below : c < length (take used channels) = omega (arith, length-take used channels) in
+          let sat : IsExact held seats c = x
+          ∙ ap (λ (v : Option Voice). is_some v || sounds_on c voices) (sym (empty c below))
+          ∙ sym (seated_sounds (take used channels) voices c below)
+          ∙ ap (λ (l : List Channel). is_some (get_or l c blank_channel).voice) (sym sits) in
+          k.exact c (omega arith) sat ∙ gathered_sounds made c range.channels inside ∙ ap (sounds_on c) (sym o);
       wide = k.wide;
     }
 

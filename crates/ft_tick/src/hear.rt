@@ -1,6 +1,6 @@
 //! What is heard of a channel.
 
-ghost use Rattle.std.specs.Prelude.{◌≡◌, ◌≤◌, ◌<◌, ◌+◌, ◌*◌, ◌≤ℤ◌, ◌+ℤ◌, ◌-ℤ◌, ℕ, Some, IfSome, pos, negsuc, length, map, get_or, is_some};
+ghost use Rattle.std.specs.Prelude.{◌≡◌, ◌≤◌, ◌<◌, ◌+◌, ◌*◌, ◌≤ℤ◌, ◌+ℤ◌, ◌-ℤ◌, ℕ, None, Some, IfSome, pos, negsuc, length, map, get_or, is_some};
 ghost use Rattle.std.specs.Int.{int_max};
 ghost use Rattle.ft_types.specs.declared.voice.SampleHead.{SampleHead};
 ghost use Rattle.ft_types.specs.Valid.{IsValidEnvelope, IsValidShape};
@@ -347,7 +347,7 @@ fn sound(
     fade(channel, fadeout_of(shape));
 }
 
-/// A channel with a voice gets its gains and its step.
+/// A channel with a voice gets its gains and its step. Of a channel without one nothing is read.
 #[tactic(auto, unfolding(ft_replay::specs::Hearing::heard_channel))]
 fn hear_one<V: SongView>(
     view: &mut V,
@@ -372,6 +372,7 @@ fn hear_one<V: SongView>(
     ensures keeps { (c : ℕ) (h : SampleHead) → V.keeps view.old c h → V.keeps view.new c h }
     ensures work { (V.work view.old ≤ V.work view.new)
         × (V.work view.new ≤ V.work view.old + hear_bound) }
+    ensures silent { channel.old.voice ≡ None → V.work view.new ≡ V.work view.old }
     ensures same { V.same view.old view.new }
 {
     let Some(voice) = channel.voice else {

@@ -1,6 +1,6 @@
 //! The tick of a song between ticks.
 
-ghost use Rattle.std.specs.Prelude.{◌≡◌, ◌≤◌, ◌<◌, ◌+◌, length, take};
+ghost use Rattle.std.specs.Prelude.{◌≡◌, ◌≤◌, ◌<◌, ◌+◌, length, take, drop};
 ghost use Rattle.ft_replay.specs.Calls as calls;
 ghost use Rattle.ft_replay.specs.Range.{IsBetweenTicks, IsSongInRange};
 ghost use Rattle.ft_replay.specs.Standing.{seated, sequential_of, state_of};
@@ -37,6 +37,7 @@ fn tick_parts<V: SongView>(
     ensures keeps { calls.KeepsVoices (V.keeps view.old) (V.keeps view.new)
         (V.holds view.old) (V.holds view.new) voices.old.items voices.new.items }
     ensures range { IsBetweenTicks used control.new channels.new voices.new.items }
+    ensures past { drop used channels.new ≡ drop used channels.old }
     ensures some_frames { 1 ≤ result.frames }
     ensures few_frames { result.frames ≤ 3750 }
     ensures work { (V.work view.old ≤ V.work view.new)
@@ -53,9 +54,9 @@ fn tick_parts<V: SongView>(
 /// Makes the state of the next tick, with its voices at their first frame, and says where the tick
 /// is and how many frames it has: 1 to 3,750.
 ///
-/// The rate is 8,000 to 48,000 frames a second. The view has the song's channels. A channel that
-/// kept the sample of its voice does so after the tick, and so does one that kept one exactly where
-/// it had a voice.
+/// The rate is 8,000 to 48,000 frames a second. The view has the song's channels. Where each channel
+/// kept the sample of its voice, each does so after the tick. Each channel that kept a sample exactly
+/// where it had a voice does so again. Channels past the song's own stay as they are.
 pub fn tick_state<V: SongView>(view: &mut V, song: &mut SongState, rate: u32) -> Place
     requires wide { song.old.used ≡ length (V.holds view.old) }
     requires low { 8000 ≤ rate }
@@ -74,6 +75,7 @@ pub fn tick_state<V: SongView>(view: &mut V, song: &mut SongState, rate: u32) ->
         (V.holds view.old) (V.holds view.new) song.old.voices.items song.new.voices.items }
     ensures range { IsSongInRange song.new }
     ensures used { song.new.used ≡ song.old.used }
+    ensures past { drop song.old.used song.new.channels ≡ drop song.old.used song.old.channels }
     ensures some_frames { 1 ≤ result.frames }
     ensures few_frames { result.frames ≤ 3750 }
     ensures work { (V.work view.old ≤ V.work view.new)

@@ -3,8 +3,8 @@ use Rattle.ft_replay.specs.Sound.{end_of, place_of}
 use Rattle.ft_mix.proofs.Turns.{goes_up, goes_down, end_is}
 use Rattle.ft_mix.proofs.piece.piece_at.Goals as goal
 
-pub returns-then-steps-head : goal.returns-then-steps-head
-returns-then-steps-head c = record {
+pub returns-then-steps-head-clause-piece : goal.returns-then-steps-head-clause-piece
+returns-then-steps-head-clause-piece c = record {
   places = λ k lt.
       let head = c.args.head.now in
       let at = c.args.at in
@@ -24,8 +24,8 @@ returns-then-steps-head c = record {
   down = search rules;
 }
 
-pub returns : goal.returns
-returns c = record {
+pub returns-clause-piece : goal.returns-clause-piece
+returns-clause-piece c = record {
   places = λ k lt.
       let head = c.args.head.now in
       let at = c.args.at in

@@ -87,13 +87,13 @@ returns-clause-mixed g c = λ w is.
     ∙ ap (λ (s : SequentialState). voices_of s.lanes) t.1.state
 
 pub returns-clause-exact : goal.returns-clause-exact
-returns-clause-exact g c = λ x d lt.
+returns-clause-exact g c = λ d lt x.
     let song = c.tick_state-at.new.song in
     let held = g.V.SongView.holds c.tick_state-at.new.view in
-    let inside : d < length held = omega (arith, c.mix_front.ensures.wide, lt) in
+    let inside : d < length held = omega (arith, c.tick_state-at.ensures.keeps.wide, lt) in
     ap (λ (l : List Bool). get_or l d false) c.mix_front.ensures.holds
     ∙ exact_after 0 song.used d c.tick_state-at.result.frames song.voices.items held
-    c.tick_state-at.ensures.range.ascend inside (c.tick_state-at.ensures.keeps.exact x d inside)
+    c.tick_state-at.ensures.range.ascend inside (c.tick_state-at.ensures.keeps.exact d lt x)
     ∙ ap (sounds_on d) (sym c.mix_front.ensures.voices)
 
 pub returns-clause-few_voices : goal.returns-clause-few_voices
