@@ -1,2 +1,4 @@
 mod Orders
 mod Refills
+mod Signed
+mod WholeEdits

@@ -8,3 +8,5 @@ pub mod ModuleViewLaws
 pub mod Lends
 pub mod Edits
 pub mod Journals
+pub mod Signatures
+pub mod EditParts
