@@ -1,26 +1,26 @@
--- A desk stays one where its writer's pass keeps the version and the history.
-use Rattle.std.proofs.Common.{◌≡◌, ℕ, List, sym, ap, subst, ◌∙◌}
+-- A desk stays one where its writer's pass settles passes or gives them back, and makes steps.
+use Rattle.std.proofs.Common.{ℕ, List}
 use Rattle.ft_types.specs.declared.module.Module.{Module}
 use Rattle.ft_types.specs.Journals.{JournalState}
-use Rattle.ft_shared.specs.declared.law.PlacedVersion.{PlacedVersion}
-use Rattle.ft_shared.specs.declared.law.Account.{Account}
-use Rattle.ft_shared.specs.History.{placed_at, HasVersion}
+use Rattle.ft_shared.specs.declared.law.Hold.{Hold}
+use Rattle.ft_shared.specs.declared.law.WordStep.{WordStep}
 use Rattle.ft_shared.specs.Pass.{WriterState}
+use Rattle.ft_retire.specs.Births.{BirthsState}
 use Rattle.ft_desk.specs.Desk.{IsDesk, desk_of}
 
--- only the version and the history of an account matter
-pub with_account : (writer : WriterState) (account : Account) (journal : JournalState) (song : Module) (version : ℕ)
-    → account.version ≡ writer.account.version → account.history ≡ writer.account.history
-    → IsDesk (desk_of writer journal song version) → IsDesk (desk_of (record writer { account = account }) journal song version)
-with_account writer account journal song version same kept desk = record {
+pub with_steps : (writer : WriterState) (settled : List Hold) (steps : List WordStep) (journal : JournalState) (births : BirthsState)
+    (room : ℕ) (song : Module) (version : ℕ) → IsDesk (desk_of writer journal births room song version)
+    → IsDesk (desk_of (record writer { account = record writer.account { settled = settled; steps = steps } }) journal births room song
+    version)
+with_steps writer settled steps journal births room song version desk = record {
   lawful = desk.lawful;
-  current = same ∙ desk.current;
-  committed = λ number. (
-    λ has. (desk.committed number).0 (subst (λ (h : List PlacedVersion). HasVersion h number) kept has),
-    λ is. subst (λ (h : List PlacedVersion). HasVersion h number) (sym kept) ((desk.committed number).1 is),
-  );
+  current = desk.current;
+  committed = desk.committed;
   shown = λ number placed is.
-      let shown = desk.shown number placed
-      (ap (λ (h : List PlacedVersion). placed_at h number) (sym kept) ∙ is) in
+      let shown = desk.shown number placed is in
       record { among = shown.among; shows = shown.shows; channels = shown.channels };
+  written = desk.written;
+  entries = desk.entries;
+  born = desk.born;
+  reserved = record { lives = desk.reserved.lives; marks = desk.reserved.marks; room = desk.reserved.room };
 }

@@ -1,3 +1,3 @@
-pub mod Desk
 pub mod Parts
+pub mod Desk
 pub mod Laws

@@ -4,7 +4,6 @@ use Rattle.ft_segments.specs.Walk.{PatternIds, IndexIds, SampleIds, InstrumentId
 use Rattle.ft_shared.specs.declared.law.PlacedVersion.{PlacedVersion}
 use Rattle.ft_shared.specs.declared.law.Account.{Account}
 use Rattle.ft_shared.specs.History.{placed_at, place_of}
-use Rattle.ft_desk.specs.Desk.{DeskState}
 
 -- a part of a song, by its kind and its numbers. Instruments count from 1, all else from 0
 pub data Part : Type 0 where
@@ -85,10 +84,6 @@ born_in (Some placed) segment =
 abbrev pub entry_of : Account → ℕ → Option BornPart
 entry_of account segment =
     born_in (placed_at account.history (slice_index account.filled segment)) segment
-
--- the same for each segment of the pool
-abbrev pub parts_of : DeskState → List (Option BornPart)
-parts_of desk = each_below desk.writer.register.sizes.segments (entry_of desk.writer.account)
 
 -- the list of a desk that was just opened on a song that is laid by these ids
 abbrev pub opening_parts : ℕ → ℕ → SongIds → List (Option BornPart)

@@ -4,6 +4,7 @@
 
 mod desk;
 mod laws;
+mod reserving;
 
 pub use desk::Desk;
 pub use laws::{different_segments_are_different_parts, segments_are_parts};

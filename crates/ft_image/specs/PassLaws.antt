@@ -1,4 +1,5 @@
--- What a read leaves, nothing and one more read leave too.
+-- What a read leaves, nothing and one more read leave too. The views over passes have these terms as
+-- their laws `same_here` and `same_through`; all others call `a_pass_reads_on` or `a_writer_steps_on`.
 use Rattle.std.specs.Prelude.{ℕ, [], ◌++◌}
 use Rattle.std.proofs.Common.{sym, ap, arith, ◌∙◌, append-nil, append_assoc}
 use Rattle.ft_shared.specs.Pass.{ReaderState, WriterState}

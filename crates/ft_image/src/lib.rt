@@ -26,8 +26,9 @@ pub use image::{Image, place};
 pub use instrument_reading::{envelope, sample_root, shape};
 pub use laws::{a_shown_sample_is_of_its_version, shown_has_blocks, shown_stays, walk_is_there};
 pub use pass_laws::{
-    a_held_version_may_be_shown, a_history_agreed_before, a_pinned_sample_may_be_shown,
-    a_sound_version_is_among, a_written_version_may_be_shown,
+    a_held_version_may_be_shown, a_history_agreed_before, a_pass_reads_on,
+    a_pinned_sample_may_be_shown, a_sound_version_is_among, a_writer_steps_on,
+    a_written_version_may_be_shown,
 };
 pub use pass_words::PassWords;
 pub use pattern_reading::{cell, rows};

@@ -14,7 +14,7 @@ ghost use Rattle.ft_shared.specs.History.{placed_at, place_of, Agrees, AreSound}
 ghost use Rattle.ft_shared.specs.Pass.{ReaderState, WriterState};
 ghost use Rattle.ft_image.specs.Shown.{Shows};
 ghost use Rattle.ft_image.specs.Read.{MayShowAll, MayShowSample, IsRootOf};
-ghost use Rattle.ft_image.specs.Passes.{IsAmong, MayShowHeld, MayShowPinned, StandsWritten, MayShowWritten, HasReadOn};
+ghost use Rattle.ft_image.specs.Passes.{IsAmong, MayShowHeld, MayShowPinned, StandsWritten, MayShowWritten, HasReadOn, AreCounted, HasMadeSteps};
 
 use ft_segments::a_pin_holds_its_sample;
 use ft_shared::{a_history_agrees_with_fewer_reads, each_version_is_sound};
@@ -35,6 +35,24 @@ pub fn a_sound_version_is_among()
 {
     each_version_is_sound();
 }
+
+/// A pass that read nothing has read on, and what it leaves over two rows of reads it leaves over
+/// both. So do the counts.
+pub fn a_pass_reads_on()
+    ensures nothing { (pass : ReaderState) → HasReadOn pass pass }
+    ensures through { (one next last : ReaderState) → HasReadOn one next → HasReadOn next last
+        → HasReadOn one last }
+    ensures counted { (one next last : ReaderState) (count more all : ℕ)
+        → AreCounted one next count more → AreCounted next last more all
+        → AreCounted one last count all }
+{}
+
+/// The same of the steps of the writer's pass.
+pub fn a_writer_steps_on()
+    ensures nothing { (pass : WriterState) → HasMadeSteps pass pass }
+    ensures through { (one next last : WriterState) → HasMadeSteps one next
+        → HasMadeSteps next last → HasMadeSteps one last }
+{}
 
 /// In a history that agrees with the notes, the view of a pass may show the version that the pass
 /// holds, whose root is that which was taken.

@@ -31,6 +31,8 @@ pub struct PassWords<'a, 'b, 'c, L: Ledger> {
 impl<'a, 'b, 'c, L: Ledger> WordView for PassWords<'a, 'b, 'c, L> {
     ghost may_show = { λ v p s. MayShowHeld v.pass.now p s };
 
+    ghost segments = { λ v. v.shared.now.sizes.segments };
+
     ghost work = { λ v. v.steps.now };
 
     ghost same = { λ v w. (v.shared.now ≡ w.shared.now)

@@ -35,6 +35,8 @@ pub struct PinnedWords<'a, 'b, 'c, L: Ledger> {
 impl<'a, 'b, 'c, L: Ledger> WordView for PinnedWords<'a, 'b, 'c, L> {
     ghost may_show = { λ v p s. MayShowPinned v.pass.now v.channel p s };
 
+    ghost segments = { λ v. v.shared.now.sizes.segments };
+
     ghost work = { λ v. v.steps.now };
 
     ghost same = { λ v w. (v.shared.now ≡ w.shared.now) × (v.channel ≡ w.channel)

@@ -1,6 +1,6 @@
 //! A slice of words as a view.
 
-ghost use Rattle.std.specs.Prelude.{◌≡◌, refl};
+ghost use Rattle.std.specs.Prelude.{◌≡◌, ◌+◌, ◌/◌, length, refl};
 ghost use Rattle.std.proofs.Common.{◌∙◌};
 
 use crate::view::WordView;
@@ -15,6 +15,8 @@ pub struct SliceWords<'a> {
 
 impl<'a> WordView for SliceWords<'a> {
     ghost may_show = { λ v p s. p.pool ≡ v.words.now };
+
+    ghost segments = { λ v. (length v.words.now + 255) / 256 };
 
     ghost work = { λ v. 0 };
 

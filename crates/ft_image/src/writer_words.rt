@@ -25,6 +25,8 @@ pub struct WriterWords<'a, 'b> {
 impl<'a, 'b> WordView for WriterWords<'a, 'b> {
     ghost may_show = { λ v p s. MayShowWritten v.pass.now p s };
 
+    ghost segments = { λ v. v.shared.now.sizes.segments };
+
     ghost work = { λ v. 0 };
 
     ghost same = { λ v w. (v.shared.now ≡ w.shared.now)

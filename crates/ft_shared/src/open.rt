@@ -26,8 +26,8 @@ impl Shared {
     /// with the root segment `root`: the walk from it must stay among the segments so filled,
     /// and name each once.
     ///
-    /// `PoolSmall` comes exactly where `words` need more segments than there are. After a
-    /// refusal nothing was made.
+    /// `PoolSmall` comes exactly where `words` need more segments than there are. So `NoMemory`
+    /// comes only where they fit. After a refusal nothing was made.
     pub fn open(
         alloc: Global,
         segments: u16,
@@ -46,6 +46,7 @@ impl Shared {
             → IsErrOf result (PoolSmall (length words.now / 256) segments) }
         ensures memory { length words.now / 256 ≤ segments
             → IfErr result (λ fault. fault ≡ NoMemory) }
+        ensures fits { IsErrOf result NoMemory → length words.now / 256 ≤ segments }
         ensures sizes { IfOk result (λ made. made.0.sizes
             ≡ record { segments = segments; readers = readers; channels = channels }) }
         ensures writer { IfOk result (λ made. made.1

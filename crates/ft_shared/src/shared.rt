@@ -49,7 +49,7 @@ pub enum OpenFault {
         /// Segments that the pool was to have, 0 to 65,535.
         segments: u16,
     },
-    /// Memory was wanting. No clause says when.
+    /// There was not enough memory. It comes only where the words fit: no clause says more of it.
     #[error("out of memory")]
     NoMemory,
 }
