@@ -8,7 +8,7 @@ use Rattle.ft_replay.specs.State.{Lane, SequentialState, first_state}
 use Rattle.ft_replay.specs.Replay.{ticks_from, state_after, replay, sound_of_ticks, sound_from, sound_of_song}
 use Rattle.ft_replay.specs.Sound.{sound_of, frame_at, stereo}
 use Rattle.ft_replay.specs.Tick.{Tick, seq_tick}
-use Rattle.ft_replay.specs.Laws.{frames_of_ticks, ticks_of_song}
+use Rattle.ft_replay.specs.Laws.{frames_of_ticks, unedited_ticks}
 use Rattle.ft_replay.proofs.Replays.{ticks_go_on}
 
 -- a sound has two numbers a frame
@@ -57,7 +57,7 @@ enough song_at versions more count rate state le =
     (omega (arith, le, ticks_long song_at versions rate state))
 
 pub one_version : (song : Module) (count rate many : ℕ) → many ≤ count
-    → count ≤ frames_of_ticks (ticks_of_song song many rate)
+    → count ≤ frames_of_ticks (unedited_ticks song many rate)
     → (replay song.channels (λ version. song) (replicate many 0) count rate).sound ≡ sound_of_song song count rate
 unfolding replay sound_from
 one_version song count rate many few le =

@@ -22,13 +22,13 @@ abbrev pub frames_of_ticks : List Tick → ℕ
 frames_of_ticks ticks = sum_by (λ tick. tick.place.frames) ticks
 
 -- the ticks of a song that nobody edits
-abbrev pub ticks_of_song : Module → ℕ → ℕ → List Tick
-ticks_of_song song many rate =
+abbrev pub unedited_ticks : Module → ℕ → ℕ → List Tick
+unedited_ticks song many rate =
     ticks_from (λ version. song) (replicate many 0) rate (first_state song.channels)
 
 -- the replay of a song that nobody edits has the song's sound, with as many ticks as hold the frames
 abbrev pub OneVersionSounds : Type 0
 OneVersionSounds = (song : Module) (count rate many : ℕ) → many ≤ count
-    → count ≤ frames_of_ticks (ticks_of_song song many rate)
+    → count ≤ frames_of_ticks (unedited_ticks song many rate)
     → (replay song.channels (λ version. song) (replicate many 0) count rate).sound
     ≡ sound_of_song song count rate
