@@ -2,6 +2,8 @@
 #![tactic(auto)]
 
 mod digits;
+mod draft_words;
+mod fill_view;
 mod filling;
 mod ids;
 mod image;
@@ -22,6 +24,8 @@ mod values;
 mod view;
 mod writer_words;
 
+pub use draft_words::DraftWords;
+pub use fill_view::{Content, Fill, fill_with};
 pub use image::{Image, place};
 pub use instrument_reading::{envelope, sample_root, shape};
 pub use laws::{a_shown_sample_is_of_its_version, shown_has_blocks, shown_stays, walk_is_there};
