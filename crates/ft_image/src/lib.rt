@@ -26,6 +26,7 @@ mod writer_words;
 
 pub use draft_words::DraftWords;
 pub use fill_view::{Content, Fill, fill_with};
+pub use filling::BlankWords;
 pub use image::{Image, place};
 pub use instrument_reading::{envelope, sample_root, shape};
 pub use laws::{a_shown_sample_is_of_its_version, shown_has_blocks, shown_stays, walk_is_there};

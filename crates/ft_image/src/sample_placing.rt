@@ -10,8 +10,10 @@ ghost use Rattle.ft_image.specs.Values as values;
 ghost use Rattle.ft_image.specs.Shown.{Pairwise, ShowsSample};
 ghost use Rattle.ft_image.specs.Laid.{Keeps, laid, sample_laid, sample_root_word};
 
-use crate::filling::{Content, fill};
+use crate::fill_view::Content;
+use crate::filling::fill;
 use crate::values::{bytes_word, frames_word, lengths_of, loops_of, run_word, tuning_of};
+use crate::view::WordView;
 use arrayvec::ArrayVec;
 use ft_types::Sample;
 
@@ -26,9 +28,9 @@ struct SampleRoot<'a> {
 }
 
 impl<'a> Content for SampleRoot<'a> {
-    ghost word_of = { λ c j. sample_root_word c.sample.now (range_with_len c.first c.count) j };
+    ghost makes = { λ c p j w. w ≡ sample_root_word c.sample.now (range_with_len c.first c.count) j };
 
-    fn word(&self, at: u8) -> u64 {
+    fn word<V: WordView>(&self, _view: &mut V, at: u8) -> u64 {
         if at == 0 {
             return lengths_of(self.sample);
         }
@@ -57,9 +59,9 @@ struct SampleIndex {
 }
 
 impl Content for SampleIndex {
-    ghost word_of = { λ c j. ids_word (range_with_len c.first c.count) j };
+    ghost makes = { λ c p j w. w ≡ ids_word (range_with_len c.first c.count) j };
 
-    fn word(&self, at: u8) -> u64 {
+    fn word<V: WordView>(&self, _view: &mut V, at: u8) -> u64 {
         run_word(self.first, self.count, at)
     }
 }
@@ -73,9 +75,9 @@ struct FramesBody<'a> {
 }
 
 impl<'a> Content for FramesBody<'a> {
-    ghost word_of = { λ c j. values.frames_word c.frames.now (c.first + j) };
+    ghost makes = { λ c p j w. w ≡ values.frames_word c.frames.now (c.first + j) };
 
-    fn word(&self, at: u8) -> u64 {
+    fn word<V: WordView>(&self, _view: &mut V, at: u8) -> u64 {
         frames_word(self.frames, (self.first + u32::from(at)) as usize)
     }
 }
