@@ -16,9 +16,11 @@ use ft_types::Instrument;
 
 /// The root of an instrument.
 #[derive(Drop)]
-struct InstrumentRoot<'a, 'b> {
-    instrument: &'a Instrument,
-    samples: &'b [u16],
+pub struct InstrumentRoot<'a, 'b> {
+    /// The instrument.
+    pub instrument: &'a Instrument,
+    /// The segments of the roots of its samples, in their order.
+    pub samples: &'b [u16],
     ghost valid: { IsValidInstrument instrument.now },
 }
 

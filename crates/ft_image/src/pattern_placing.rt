@@ -40,11 +40,13 @@ impl<'a> Content for PatternRoot<'a> {
     }
 }
 
-/// A body of cells, from the cell of a number on.
+/// A body of cells.
 #[derive(Drop)]
-struct CellsBody<'a> {
-    cells: &'a [Cell],
-    first: u32,
+pub struct CellsBody<'a> {
+    /// All cells of a pattern, row by row.
+    pub cells: &'a [Cell],
+    /// The number of the first cell of the body.
+    pub first: u32,
     ghost within: { first ≤ 65536 },
 }
 

@@ -66,11 +66,13 @@ impl Content for SampleIndex {
     }
 }
 
-/// A body of frames, from the word of a number on.
+/// A body of frames.
 #[derive(Drop)]
-struct FramesBody<'a> {
-    frames: &'a [i16],
-    first: u32,
+pub struct FramesBody<'a> {
+    /// All frames of a sample.
+    pub frames: &'a [i16],
+    /// The number of the first word of the body, at four frames a word.
+    pub first: u32,
     ghost within: { first ≤ 1048576 },
 }
 

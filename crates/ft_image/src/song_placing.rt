@@ -17,10 +17,13 @@ use ft_types::Module;
 
 /// The root of a song.
 #[derive(Drop)]
-struct SongRoot<'a, 'b> {
-    song: &'a Module,
-    patterns: &'b [u16],
-    instruments: &'b [u16],
+pub struct SongRoot<'a, 'b> {
+    /// The song.
+    pub song: &'a Module,
+    /// The segments of the roots of its patterns, in their order.
+    pub patterns: &'b [u16],
+    /// The segments of the roots of its instruments, in their order.
+    pub instruments: &'b [u16],
     ghost valid: { IsValid song.now },
 }
 
