@@ -14,3 +14,4 @@ pub mod Kept
 pub mod Counted
 pub mod Noted
 pub mod Agreed
+pub mod DraftFills

@@ -5,3 +5,4 @@ pub mod Laid
 pub mod Laws
 pub mod Passes
 pub mod PassLaws
+pub mod Drafts

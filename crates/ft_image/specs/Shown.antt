@@ -1,5 +1,5 @@
 -- What words say of a song: the table of each kind of segment, and the versions that show a song.
-use Rattle.std.specs.Prelude.{◌≡◌, ◌≢◌, ℕ, ◌+◌, ◌*◌, ◌/◌, ◌<◌, ◌≤◌, List, map, length, slice_index, slice_index_or, slice_get, Some}
+use Rattle.std.specs.Prelude.{◌≡◌, ◌≢◌, ℕ, ◌+◌, ◌*◌, ◌/◌, ◌<◌, ◌≤◌, List, [], map, length, slice_index, slice_index_or, slice_get, Some}
 use Rattle.ft_types.specs.declared.module.Module.{Module}
 use Rattle.ft_types.specs.declared.pattern.Pattern.{Pattern}
 use Rattle.ft_types.specs.declared.instrument.Instrument.{Instrument}
@@ -95,6 +95,10 @@ pub record Stands (pool : List ℕ) (song : Module) (ids : SongIds) : Type 0 whe
   pub instruments : Pairwise (ShowsInstrument pool) song.instruments ids.instruments
 
 -- ---- versions
+
+-- a version without words
+abbrev pub no_version : Placed
+no_version = record { root = 0; pool = [] }
 
 -- a version shows a valid song: its walk stays in the pool, names each segment once, and reads it
 pub record Shows (placed : Placed) (song : Module) : Type 0 where

@@ -6,24 +6,28 @@ ghost use Rattle.ft_types.specs.Blocks.{instrument_blocks};
 ghost use Rattle.ft_image.specs.Shown.{Pairwise, ShowsInstrument};
 ghost use Rattle.ft_image.specs.Laid.{Keeps, laid, instrument_laid, instrument_root_word};
 
-use crate::filling::{Content, fill};
+use crate::fill_view::Content;
+use crate::filling::fill;
 use crate::sample_placing::place_samples;
 use crate::values::{bytes_word, counts_of, envelopes_of, ids_word, points_word};
+use crate::view::WordView;
 use arrayvec::ArrayVec;
 use ft_types::Instrument;
 
 /// The root of an instrument.
 #[derive(Drop)]
-struct InstrumentRoot<'a, 'b> {
-    instrument: &'a Instrument,
-    samples: &'b [u16],
+pub struct InstrumentRoot<'a, 'b> {
+    /// The instrument.
+    pub instrument: &'a Instrument,
+    /// The segments of the roots of its samples, in their order.
+    pub samples: &'b [u16],
     ghost valid: { IsValidInstrument instrument.now },
 }
 
 impl<'a, 'b> Content for InstrumentRoot<'a, 'b> {
-    ghost word_of = { λ c j. instrument_root_word c.instrument.now c.samples.now j };
+    ghost makes = { λ c p j w. w ≡ instrument_root_word c.instrument.now c.samples.now j };
 
-    fn word(&self, at: u8) -> u64 {
+    fn word<V: WordView>(&self, _view: &mut V, at: u8) -> u64 {
         let instrument = self.instrument;
         if at == 0 {
             return counts_of(instrument);

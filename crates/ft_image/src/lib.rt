@@ -2,6 +2,8 @@
 #![tactic(auto)]
 
 mod digits;
+mod draft_words;
+mod fill_view;
 mod filling;
 mod ids;
 mod image;
@@ -22,7 +24,11 @@ mod values;
 mod view;
 mod writer_words;
 
+pub use draft_words::DraftWords;
+pub use fill_view::{Content, Fill, fill_with};
+pub use filling::BlankWords;
 pub use image::{Image, place};
+pub use instrument_placing::InstrumentRoot;
 pub use instrument_reading::{envelope, sample_root, shape};
 pub use laws::{a_shown_sample_is_of_its_version, shown_has_blocks, shown_stays, walk_is_there};
 pub use pass_laws::{
@@ -31,10 +37,13 @@ pub use pass_laws::{
     a_written_version_may_be_shown,
 };
 pub use pass_words::PassWords;
+pub use pattern_placing::CellsBody;
 pub use pattern_reading::{cell, rows};
 pub use pinned_words::PinnedWords;
+pub use sample_placing::FramesBody;
 pub use sample_reading::{body_of_frame, frame, frame_in, frame_word, sample_head};
 pub use slice::SliceWords;
+pub use song_placing::SongRoot;
 pub use song_reading::{head, order};
 pub use view::WordView;
 pub use writer_words::WriterWords;

@@ -10,8 +10,10 @@ ghost use Rattle.ft_image.specs.Values as values;
 ghost use Rattle.ft_image.specs.Shown.{Pairwise, ShowsPattern};
 ghost use Rattle.ft_image.specs.Laid.{Keeps, laid, pattern_laid, pattern_root_word};
 
-use crate::filling::{Content, fill};
+use crate::fill_view::Content;
+use crate::filling::fill;
 use crate::values::{cell_word, run_word};
+use crate::view::WordView;
 use arrayvec::ArrayVec;
 use ft_types::{Cell, Pattern};
 
@@ -25,9 +27,9 @@ struct PatternRoot<'a> {
 }
 
 impl<'a> Content for PatternRoot<'a> {
-    ghost word_of = { λ c j. pattern_root_word c.pattern.now (range_with_len c.first c.count) j };
+    ghost makes = { λ c p j w. w ≡ pattern_root_word c.pattern.now (range_with_len c.first c.count) j };
 
-    fn word(&self, at: u8) -> u64 {
+    fn word<V: WordView>(&self, _view: &mut V, at: u8) -> u64 {
         if at == 0 {
             return u64::from(self.pattern.rows);
         }
@@ -38,20 +40,22 @@ impl<'a> Content for PatternRoot<'a> {
     }
 }
 
-/// A body of cells, from the cell of a number on.
+/// A body of cells.
 #[derive(Drop)]
-struct CellsBody<'a> {
-    cells: &'a [Cell],
-    first: u32,
+pub struct CellsBody<'a> {
+    /// All cells of a pattern, row by row.
+    pub cells: &'a [Cell],
+    /// The number of the first cell of the body.
+    pub first: u32,
     ghost within: { first ≤ 65536 },
 }
 
 impl<'a> Content for CellsBody<'a> {
-    ghost word_of = { λ c j. values.cell_word
+    ghost makes = { λ c p j w. w ≡ values.cell_word
         (slice_index_or c.cells.now (c.first + j) empty_cell) };
 
     #[tactic(auto, unfolding(crate::specs::Values::cell_word))]
-    fn word(&self, at: u8) -> u64 {
+    fn word<V: WordView>(&self, _view: &mut V, at: u8) -> u64 {
         let number = (self.first + u32::from(at)) as usize;
         if number < self.cells.len() {
             return cell_word(self.cells[number]);

@@ -10,8 +10,10 @@ ghost use Rattle.ft_image.specs.Values as values;
 ghost use Rattle.ft_image.specs.Shown.{Pairwise, ShowsSample};
 ghost use Rattle.ft_image.specs.Laid.{Keeps, laid, sample_laid, sample_root_word};
 
-use crate::filling::{Content, fill};
+use crate::fill_view::Content;
+use crate::filling::fill;
 use crate::values::{bytes_word, frames_word, lengths_of, loops_of, run_word, tuning_of};
+use crate::view::WordView;
 use arrayvec::ArrayVec;
 use ft_types::Sample;
 
@@ -26,9 +28,9 @@ struct SampleRoot<'a> {
 }
 
 impl<'a> Content for SampleRoot<'a> {
-    ghost word_of = { λ c j. sample_root_word c.sample.now (range_with_len c.first c.count) j };
+    ghost makes = { λ c p j w. w ≡ sample_root_word c.sample.now (range_with_len c.first c.count) j };
 
-    fn word(&self, at: u8) -> u64 {
+    fn word<V: WordView>(&self, _view: &mut V, at: u8) -> u64 {
         if at == 0 {
             return lengths_of(self.sample);
         }
@@ -57,25 +59,27 @@ struct SampleIndex {
 }
 
 impl Content for SampleIndex {
-    ghost word_of = { λ c j. ids_word (range_with_len c.first c.count) j };
+    ghost makes = { λ c p j w. w ≡ ids_word (range_with_len c.first c.count) j };
 
-    fn word(&self, at: u8) -> u64 {
+    fn word<V: WordView>(&self, _view: &mut V, at: u8) -> u64 {
         run_word(self.first, self.count, at)
     }
 }
 
-/// A body of frames, from the word of a number on.
+/// A body of frames.
 #[derive(Drop)]
-struct FramesBody<'a> {
-    frames: &'a [i16],
-    first: u32,
+pub struct FramesBody<'a> {
+    /// All frames of a sample.
+    pub frames: &'a [i16],
+    /// The number of the first word of the body, at four frames a word.
+    pub first: u32,
     ghost within: { first ≤ 1048576 },
 }
 
 impl<'a> Content for FramesBody<'a> {
-    ghost word_of = { λ c j. values.frames_word c.frames.now (c.first + j) };
+    ghost makes = { λ c p j w. w ≡ values.frames_word c.frames.now (c.first + j) };
 
-    fn word(&self, at: u8) -> u64 {
+    fn word<V: WordView>(&self, _view: &mut V, at: u8) -> u64 {
         frames_word(self.frames, (self.first + u32::from(at)) as usize)
     }
 }

@@ -6,26 +6,31 @@ ghost use Rattle.ft_types.specs.Blocks.{blocks_of};
 ghost use Rattle.ft_image.specs.Shown.{Stands};
 ghost use Rattle.ft_image.specs.Laid.{song_laid, song_root_word};
 
-use crate::filling::{Content, fill};
+use crate::fill_view::Content;
+use crate::filling::fill;
 use crate::instrument_placing::place_instruments;
 use crate::pattern_placing::place_patterns;
 use crate::values::{bytes_word, counts_in, head_of, ids_word};
+use crate::view::WordView;
 use arrayvec::ArrayVec;
 use ft_types::Module;
 
 /// The root of a song.
 #[derive(Drop)]
-struct SongRoot<'a, 'b> {
-    song: &'a Module,
-    patterns: &'b [u16],
-    instruments: &'b [u16],
+pub struct SongRoot<'a, 'b> {
+    /// The song.
+    pub song: &'a Module,
+    /// The segments of the roots of its patterns, in their order.
+    pub patterns: &'b [u16],
+    /// The segments of the roots of its instruments, in their order.
+    pub instruments: &'b [u16],
     ghost valid: { IsValid song.now },
 }
 
 impl<'a, 'b> Content for SongRoot<'a, 'b> {
-    ghost word_of = { λ c j. song_root_word c.song.now c.patterns.now c.instruments.now j };
+    ghost makes = { λ c p j w. w ≡ song_root_word c.song.now c.patterns.now c.instruments.now j };
 
-    fn word(&self, at: u8) -> u64 {
+    fn word<V: WordView>(&self, _view: &mut V, at: u8) -> u64 {
         let song = self.song;
         if at == 0 {
             return head_of(song);

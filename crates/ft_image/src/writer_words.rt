@@ -46,7 +46,7 @@ impl<'a, 'b> WordView for WriterWords<'a, 'b> {
 }
 
 /// The word of a segment, and 0 without a step where the pool hasn't the segment.
-fn written_word(shared: &Shared, pass: &mut WriterPass, seg: u16, at: u8) -> u64
+pub(crate) fn written_word(shared: &Shared, pass: &mut WriterPass, seg: u16, at: u8) -> u64
     requires here { pass.old.register ≡ shared.now }
     ensures beyond { shared.now.sizes.segments ≤ seg → (result ≡ 0) × (pass.new ≡ pass.old) }
     ensures answer { (p : Placed) → MayShowWritten pass.new p seg

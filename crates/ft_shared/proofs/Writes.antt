@@ -1,5 +1,5 @@
 -- The writer's steps keep the rule.
-use Rattle.std.proofs.Common.{nat_lt, replicate, Option, inl, ◌⊎◌, ◌↔◌, IsSome, zero, suc, Bool, true, false, cond, false-eqb, true-eqb, lt-ltb, le-ltb, eq-eqb, ◌==◌, ◌≡◌, ◌≢◌, ℕ, ◌+◌, ◌<◌, ◌≤◌, List, [], ◌∷◌, ◌++◌, length, get_or, set, sym, refl, ap, ◌∙◌, subst, ⊎_elim, arith, Some, None, All, slice_index_or, length-set, length-append, get_or-set_other, get_or-set_same}
+use Rattle.std.proofs.Common.{nat_lt, replicate, Option, inl, ◌⊎◌, ◌↔◌, IsSome, zero, suc, Bool, true, false, cond, false-eqb, true-eqb, lt-ltb, le-ltb, eq-eqb, ◌==◌, ◌≡◌, ◌≢◌, ℕ, ◌+◌, ◌*◌, ◌<◌, ◌≤◌, List, [], ◌∷◌, ◌++◌, length, get_or, set, sym, refl, ap, ◌∙◌, subst, ⊎_elim, arith, Some, None, All, slice_index_or, length-set, length-append, get_or-set_other, get_or-set_same}
 use Rattle.std.proofs.lemmas.List.{get_or_append_left, get_or_push}
 use Rattle.std.proofs.lemmas.List.Elements.{Contains-push_cases}
 use Rattle.std.specs.List.{Contains}
@@ -287,6 +287,8 @@ module _ (key : Opening) where
           subst KeepsHeld (sym same.0)
               (keeps_held key.sizes state.views rule.account id (at' ∙ ap (λ (z : Account). some (Writer z)) same.0) rule.segments),
           subst (λ (z : Account). (slot_at z z.slot).version ≡ z.version) (sym same.0) rule.bears,
+          subst (λ (z : Account). length z.pool ≡ 256 * z.sizes.segments) (sym same.0)
+              (rule.stored.0 ∙ ap (λ (z : Sizes). 256 * z.segments) (sym rule.told)),
         ),
       )
 

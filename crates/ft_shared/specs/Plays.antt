@@ -1,6 +1,6 @@
 -- What each kind of step tells the seat that makes it: of the step, the seat before, the number
 -- found and the seat after.
-use Rattle.std.specs.Prelude.{◌≡◌, ◌≢◌, ◌⊎◌, ◌↔◌, IsSome, ℕ, ◌+◌, ◌<◌, ◌≤◌, true, IsNone, List, [], ◌∷◌, length, All}
+use Rattle.std.specs.Prelude.{◌≡◌, ◌≢◌, ◌⊎◌, ◌↔◌, IsSome, ℕ, ◌+◌, ◌*◌, ◌<◌, ◌≤◌, true, IsNone, List, [], ◌∷◌, length, All}
 use Rattle.atomic_table.specs.Table.{Step, Allows}
 use Rattle.atomic_table.specs.Seated.{TableId}
 use Rattle.ft_shared.specs.declared.law.Opening.{Opening}
@@ -104,8 +104,8 @@ IsPinnedRead channel step before found after = (segment at : ℕ) → at < 256
 
 -- ---- the writer's steps
 
--- nothing that is known to be held was written since, and the current slot bears the current
--- version
+-- nothing that is known to be held was written since, the current slot bears the current version,
+-- and the pool has 256 words for each segment
 abbrev pub IsScanBegin : StepKind
 IsScanBegin step before found after =
     (after ≡ (Writer (after_begin (account_of before.0)), before.1))
@@ -113,6 +113,7 @@ IsScanBegin step before found after =
     × KeepsHeld (account_of before.0)
     × ((slot_at (account_of before.0) (account_of before.0).slot).version
     ≡ (account_of before.0).version)
+    × (length (account_of before.0).pool ≡ 256 * (account_of before.0).sizes.segments)
 
 -- the slot's version is in the history, a slot that was found free before is found free again, and
 -- a whole scan finds at most as many slots held as there are readers; the versions of settled

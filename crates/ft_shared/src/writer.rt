@@ -1,6 +1,6 @@
 //! The writer: it scans the slots for one that no reader holds, and publishes the next
 //! version in it.
-ghost use Rattle.std.specs.Prelude.{◌≡◌, ◌≢◌, ◌⊎◌, All, ℕ, ◌+◌, ◌-◌, ◌<◌, ◌≤◌, ◌↔◌, [], ◌∷◌, ◌++◌, true, false, Some, IsNone, IsSome, IfSome, length, slice_index_or, replicate};
+ghost use Rattle.std.specs.Prelude.{◌≡◌, ◌≢◌, ◌⊎◌, All, ℕ, ◌+◌, ◌-◌, ◌*◌, ◌<◌, ◌≤◌, ◌↔◌, [], ◌∷◌, ◌++◌, true, false, Some, IsNone, IsSome, IfSome, length, slice_index_or, replicate};
 ghost use Rattle.ft_segments.specs.Walk.{IsSound, walk};
 ghost use Rattle.ft_shared.specs.History.{placed_at, HasVersion};
 ghost use Rattle.ft_shared.specs.Account.{account_of, new_slot, slot_at, no_slot, next_slot, IsWhole, AreAllSettled, IsHeldSlot, IsBorne, after_begin, after_scan, answer_of};
@@ -78,6 +78,7 @@ impl Shared {
         ensures kept { KeepsHeld pass.old.account }
         ensures bears { (slot_at pass.old.account pass.old.account.slot).version
             ≡ pass.old.account.version }
+        ensures long { length pass.old.account.pool ≡ 256 * self.now.sizes.segments }
     {
         self.words.scan_load::<BeginScan>(&mut pass.place, 0);
     }
