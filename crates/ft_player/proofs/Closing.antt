@@ -1,8 +1,10 @@
 -- Pins that are taken away one after the other.
 use Rattle.std.proofs.Common.{◌≡◌, ◌≤◌, ◌<◌, ◌+◌, ℕ, zero, suc, List, [], ◌∷◌, ◌++◌, Option, None, length, drop, replicate, slice_set, refl, sym, ap, subst, ◌∙◌, arith, append-nil, append_assoc}
+use Rattle.std.proofs.lemmas.List.{length-append}
 use Rattle.ft_shared.specs.declared.law.Pin.{Pin}
 use Rattle.ft_shared.specs.declared.law.WordStep.{WordStep}
 use Rattle.ft_shared.specs.Pass.{ReaderState}
+use Rattle.ft_image.specs.Passes.{AreCounted}
 use Rattle.ft_player.specs.Player.{HasClosed}
 
 -- so many of the first pins are gone
@@ -83,3 +85,10 @@ pub clears_next : (n : ℕ) (a b c : ReaderState) (step : WordStep) → IsCleare
     }
     → IsCleared (n + 1) a c
 clears_next n a b c step e f = subst (λ (k : ℕ). IsCleared k a c) (suc_is n) (clears_more n a b c step e f)
+
+-- each of them is counted
+pub counts_next : (a b c : ReaderState) (step : WordStep) (x y z : ℕ) → AreCounted a b x y
+    → c.notes.steps ≡ b.notes.steps ++ step ∷ [] → z ≡ y + 1 → AreCounted a c x z
+counts_next a b c step x y z before steps more =
+    let long : length c.notes.steps ≡ length b.notes.steps + 1
+    = ap (λ (l : List WordStep). length l) steps ∙ length-append b.notes.steps (step ∷ []) in omega (arith, before, long, more)

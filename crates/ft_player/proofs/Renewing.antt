@@ -13,7 +13,7 @@ use Rattle.ft_shared.specs.Pass.{ReaderState, RegisterId}
 use Rattle.ft_player.specs.declared.songs.Songs.{Songs}
 use Rattle.ft_player.specs.Songs.{history_of}
 use Rattle.ft_player.specs.Behind.{IsShown, Stands}
-use Rattle.ft_player.specs.Player.{IsRenewed, taken_of}
+use Rattle.ft_player.specs.Player.{IsRenewed, TakesAreOf, taken_of}
 
 front : {A : Type 0} (P : A → Type 0) (xs ys zs : List A) → zs ≡ xs ++ ys → All P zs → All P xs
 front P xs ys zs is all =
@@ -24,8 +24,7 @@ abbrev pub WasTaken : Notes → Type 0
 WasTaken notes = (taken : TakenVersion) → notes.held ≡ Some taken → Contains notes.takes taken
 
 takes_before : (h : List PlacedVersion) (old new : Notes) (held : Held)
-    → ((new.takes ≡ old.takes) × (old.held ≡ Some (taken_of held))) ⊎ (new.takes ≡ old.takes ++ taken_of held ∷ [])
-    → All (HasTakenVersion h) new.takes → All (HasTakenVersion h) old.takes
+    → TakesAreOf old new (taken_of held) → All (HasTakenVersion h) new.takes → All (HasTakenVersion h) old.takes
 takes_before h old new held (inl same) all = subst (All (HasTakenVersion h)) same.0 all
 takes_before h old new held (inr more) all = front (HasTakenVersion h) old.takes (taken_of held ∷ []) new.takes more all
 
@@ -48,8 +47,7 @@ stood songs old new held same r taken s = record {
 }
 
 -- what it holds now was taken
-still_taken : (old new : Notes) (held : Held)
-    → ((new.takes ≡ old.takes) × (old.held ≡ Some (taken_of held))) ⊎ (new.takes ≡ old.takes ++ taken_of held ∷ [])
+pub still_taken : (old new : Notes) (held : Held) → TakesAreOf old new (taken_of held)
     → WasTaken old → Contains new.takes (taken_of held)
 still_taken old new held (inl same) taken =
     subst (λ (l : List TakenVersion). Contains l (taken_of held)) (sym same.0) (taken (taken_of held) same.1)

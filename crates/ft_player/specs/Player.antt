@@ -88,8 +88,14 @@ ForAllBehind old new True =
 
 -- ---- looks and takes
 
+-- The takes are the old ones, and this version was held before; or they are these and this version
+abbrev pub TakesAreOf : Notes → Notes → TakenVersion → Type 0
+TakesAreOf old new held =
+    ((new.takes ≡ old.takes) × (old.held ≡ Some held)) ⊎ (new.takes ≡ old.takes ++ held ∷ [])
+
 -- A tick has looked once, and holds a version that is none before the one looked at, the greatest
--- one seen, or the one held before. What it holds it has taken
+-- one seen, or the one held before. What it holds is among its takes: it was held before, or it was
+-- taken now, and nothing else was taken
 pub record HasLooked (old new : Notes) (version : ℕ) : Type 0 where
   pub look : ℕ
   pub once : new.looks ≡ old.looks ++ look ∷ []
@@ -99,6 +105,8 @@ pub record HasLooked (old new : Notes) (version : ℕ) : Type 0 where
   pub held : TakenVersion
   pub holds : new.held ≡ Some held
   pub number : held.version ≡ version
+  pub takes : TakesAreOf old new held
+  pub taken : Contains new.takes held
 
 -- ---- what it does before a tick
 
@@ -118,8 +126,7 @@ pub record IsRenewed (old new : Notes) (held : Held) : Type 0 where
   pub current : look ≤ held.version
   pub later : (taken : TakenVersion) → old.held ≡ Some taken → taken.version ≤ held.version
   pub holds : new.held ≡ Some (taken_of held)
-  pub takes : ((new.takes ≡ old.takes) × (old.held ≡ Some (taken_of held)))
-      ⊎ (new.takes ≡ old.takes ++ taken_of held ∷ [])
+  pub takes : TakesAreOf old new (taken_of held)
   pub number : new.number ≡ old.number
   pub sizes : new.sizes ≡ old.sizes
   pub pins : new.pins ≡ old.pins

@@ -17,7 +17,7 @@ ghost use Rattle.ft_player.specs.Seats.{head_in, pin_in, words_in, numbers_of, o
 ghost use Rattle.ft_player.specs.Behind.{Stands};
 ghost use Rattle.ft_player.specs.Asked.{HasAsked};
 
-use crate::laws::what_stands_stood_before;
+use crate::laws::songs_agree_with_earlier_notes;
 use crate::ranges::ranged_frame;
 use crate::seat::{KeptWord, Seat};
 use arrayvec::ArrayVec;
@@ -152,7 +152,7 @@ fn other_word<L: Ledger>(
     ensures cost { steps.new ≤ steps.old
         + work_of.frame_cost (work_of.word_of place) (numbers_of seat.now.words) }
 {
-    what_stands_stood_before();
+    songs_agree_with_earlier_notes();
     if let Some(kept) = seat.words.older_of(place / 4) {
         return kept;
     }

@@ -16,7 +16,7 @@ mod tick;
 mod view;
 
 pub use idle::Idle;
-pub use laws::what_stands_stood_before;
+pub use laws::{songs_agree_with_earlier_notes, the_same_songs_after_hear_close_and_rejoin};
 pub use player::Player;
 pub use seat::{KeptWord, KeptWords, Seat};
 pub use songs::{SongVersion, Songs};

@@ -1,9 +1,12 @@
 //! A player: it plays a song tick by tick from the words of a register.
 
-ghost use Rattle.std.specs.Prelude.{◌≡◌, ◌≤◌, ◌+◌, None, length, replicate};
+ghost use Rattle.std.specs.Prelude.{◌≡◌, ◌≤◌, ◌+◌, ◌++◌, ◌∷◌, [], None, length, replicate};
 ghost use Rattle.ft_replay.specs.State.{first_state};
 ghost use Rattle.ft_player.specs.declared.songs.Songs.{Songs};
+ghost use Rattle.ft_shared.specs.Layout.{current_at};
 ghost use Rattle.ft_shared.specs.Pass.{note_heard};
+ghost use Rattle.ft_shared.specs.declared.law.WordStep.TheVariants.{Load};
+ghost use Rattle.ft_image.specs.Passes.{AreCounted};
 ghost use Rattle.ft_player.specs.Player.{IsInOrder, HasClosed, stood_by};
 
 use crate::seat::Seat;
@@ -82,23 +85,26 @@ impl Player {
     }
 
     /// Each later tick is on a version that is at least the note's. The note came from the same
-    /// register.
+    /// register. It makes one load, which the pass notes and no counter sees.
     pub fn hear(&mut self, shared: &Shared, note: Note)
         requires same { self.old.pass.register ≡ shared.now }
         requires from { note.register ≡ shared.now }
         ensures heard { self.new ≡ record self.old {
           pass = record self.old.pass { notes = note_heard self.old.pass.notes note.version };
         } }
+        ensures one_load { self.new.pass.notes.steps
+            ≡ self.old.pass.notes.steps ++ Load current_at ∷ [] }
         ensures order { IsInOrder self.new }
     {
         shared.hear(&mut self.pass, note);
     }
 
     /// Takes the pins away, and hands back the pass, which holds its last version still. One store
-    /// for each channel.
+    /// for each channel, and all of them are counted.
     pub fn close<L: Ledger>(self, shared: &Shared, steps: &mut Steps<L>) -> ReaderPass
         requires same { self.pass.register ≡ shared.now }
         ensures closed { HasClosed self.pass result }
+        ensures counted { AreCounted self.pass result steps.old steps.new }
         ensures steps { steps.new ≡ steps.old + self.pass.register.sizes.channels }
     {
         let mut pass = self.pass;
@@ -113,6 +119,7 @@ fn unpin_all<L: Ledger>(pass: &mut ReaderPass, channels: u8, shared: &Shared, st
     requires channels { channels ≡ shared.now.sizes.channels }
     requires pins { length pass.old.notes.pins ≡ channels }
     ensures closed { HasClosed pass.old pass.new }
+    ensures counted { AreCounted pass.old pass.new steps.old steps.new }
     ensures steps { steps.new ≡ steps.old + channels }
 {
     for channel in 0..channels {

@@ -16,7 +16,7 @@ ghost use Rattle.ft_player.specs.Behind.{Stands};
 ghost use Rattle.ft_player.specs.Runs.{IsFrameIn, AreFramesIn, HasUnpacked, HasFollowed, HasRun, HasAskedAll};
 
 use crate::asking::{far_body, read_word, word_for};
-use crate::laws::what_stands_stood_before;
+use crate::laws::songs_agree_with_earlier_notes;
 use crate::ranges::ranged_frame;
 use crate::seat::{KeptWord, KeptWords, Seat};
 use arrayvec::ArrayVec;
@@ -148,7 +148,7 @@ fn next_word<L: Ledger>(
     ensures work { (steps.old ≤ steps.new) × (steps.new ≤ steps.old + 1
         + 2 * (work_of.body_of (word.number + 1) - work_of.body_of word.number)) }
 {
-    what_stands_stood_before();
+    songs_agree_with_earlier_notes();
     let place = (word.number + 1) * 4;
     let body = next_body(shared, pass, seat, channel, word, steps);
     read_word(shared, pass, seat, channel, body, place, steps)
@@ -180,7 +180,7 @@ fn follow_whole<L: Ledger>(
     ensures followed { HasFollowed from.number result.newest.number pass.old pass.new
         steps.old steps.new }
 {
-    what_stands_stood_before();
+    songs_agree_with_earlier_notes();
     a_shown_sample_is_of_its_version();
     let wide = seat.head.wide;
     let mut trail = Trail {
@@ -223,7 +223,7 @@ fn follow<L: Ledger>(
     ensures followed { HasFollowed from.number (from.number + (length out.old + 3) / 4)
         pass.old pass.new steps.old steps.new }
 {
-    what_stands_stood_before();
+    songs_agree_with_earlier_notes();
     a_shown_sample_is_of_its_version();
     let whole = out.len() / 4 * 4;
     let (front, back) = out.split_at_mut(whole);
@@ -275,7 +275,7 @@ fn run_seat<L: Ledger>(
     ensures asked { HasAskedAll first (length out.old) pass.old pass.new seat.old seat.new
         steps.old steps.new }
 {
-    what_stands_stood_before();
+    songs_agree_with_earlier_notes();
     a_shown_sample_is_of_its_version();
     let head = seat.head;
     frames_fit(head.frames);

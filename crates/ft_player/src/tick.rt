@@ -3,6 +3,7 @@
 ghost use Rattle.std.specs.Prelude.{◌≡◌, ◌≤◌, ◌+◌, ◌*◌, ◌++◌, true, All, length, drop};
 ghost use Rattle.ft_types.specs.declared.voice.Voice.{Voice};
 ghost use Rattle.ft_mix.specs.Mixing.{is_slow};
+ghost use Rattle.ft_image.specs.Passes.{AreCounted};
 ghost use Rattle.ft_player.specs.Bounds.{step_bound, slow_bound};
 ghost use Rattle.ft_player.specs.Player.{IsInOrder, IsPlayed, IsRenewed, ForAllBehind, HasLooked, held_in};
 
@@ -19,7 +20,8 @@ impl Player {
     /// was. A tick has 1 to 3,750 frames.
     ///
     /// It looks once. Where it holds no version it takes the current one; where that is newer than
-    /// the one it holds, it leaves this one first.
+    /// the one it holds, it leaves this one first. Afterwards the version that it holds is among
+    /// its takes. The counter rises by exactly the steps that the pass notes.
     pub fn tick<L: Ledger>(
         &mut self,
         shared: &Shared,
@@ -38,6 +40,7 @@ impl Player {
         ensures many { length out.new ≡ length out.old }
         ensures some_frames { 1 ≤ result.frames }
         ensures few_frames { result.frames ≤ 3750 }
+        ensures counted { AreCounted self.old.pass self.new.pass steps.old steps.new }
         ensures steps { (steps.old ≤ steps.new) × (steps.new ≤ steps.old
             + step_bound self.old.pass.register.sizes.channels result.frames) }
         ensures slow { All (λ (voice : Voice). is_slow voice ≡ true) self.new.mixed
@@ -77,6 +80,7 @@ fn renew<L: Ledger>(
     requires held { pass.old.notes.held ≡ held_in held }
     ensures register { pass.new.register ≡ pass.old.register }
     ensures renewed { IsRenewed pass.old.notes pass.new.notes result }
+    ensures counted { AreCounted pass.old pass.new steps.old steps.new }
     ensures steps { (steps.old ≤ steps.new) × (steps.new ≤ steps.old + 3) }
 {
     let now = shared.look(pass, steps);

@@ -9,7 +9,7 @@ ghost use Rattle.ft_player.specs.BehindLaws as laws;
 ghost use Rattle.ft_player.specs.Behind.{Holds, Stands, AreSeated, shown_by, HasPlayedOn};
 
 use crate::asking::ask;
-use crate::laws::what_stands_stood_before;
+use crate::laws::songs_agree_with_earlier_notes;
 use crate::reading::{held_cell, held_envelope, held_head, held_order, held_rows, held_shape};
 use crate::run::run_of;
 use crate::seat::Seat;
@@ -106,22 +106,22 @@ impl<'a, 'b, 'c, 'd, L: Ledger> SongView for PlayerView<'a, 'b, 'c, 'd, L> {
     ghost held = { λ v c h k. laws.held v.seats.now.items c h k };
 
     fn head(&mut self) -> SongHead {
-        what_stands_stood_before();
+        songs_agree_with_earlier_notes();
         held_head(self.shared, self.pass, self.root, self.steps)
     }
 
     fn order(&mut self, pos: u16) -> u8 {
-        what_stands_stood_before();
+        songs_agree_with_earlier_notes();
         held_order(self.shared, self.pass, self.root, pos, self.steps)
     }
 
     fn rows(&mut self, pattern: u8) -> u16 {
-        what_stands_stood_before();
+        songs_agree_with_earlier_notes();
         held_rows(self.shared, self.pass, self.root, pattern, self.steps)
     }
 
     fn cell(&mut self, pattern: u8, row: u16, channel: u8) -> Cell {
-        what_stands_stood_before();
+        songs_agree_with_earlier_notes();
         held_cell(
             self.shared,
             self.pass,
@@ -134,7 +134,7 @@ impl<'a, 'b, 'c, 'd, L: Ledger> SongView for PlayerView<'a, 'b, 'c, 'd, L> {
     }
 
     fn envelope(&mut self, instrument: u8, which: u8) -> Option<Envelope> {
-        what_stands_stood_before();
+        songs_agree_with_earlier_notes();
         held_envelope(
             self.shared,
             self.pass,
@@ -146,12 +146,12 @@ impl<'a, 'b, 'c, 'd, L: Ledger> SongView for PlayerView<'a, 'b, 'c, 'd, L> {
     }
 
     fn shape(&mut self, instrument: u8) -> Option<Shape> {
-        what_stands_stood_before();
+        songs_agree_with_earlier_notes();
         held_shape(self.shared, self.pass, self.root, instrument, self.steps)
     }
 
     fn start(&mut self, channel: u8, instrument: u8, note: u8) -> Option<SampleHead> {
-        what_stands_stood_before();
+        songs_agree_with_earlier_notes();
         let seat = begun_seat(
             self.shared,
             self.pass,
@@ -173,7 +173,7 @@ impl<'a, 'b, 'c, 'd, L: Ledger> SongView for PlayerView<'a, 'b, 'c, 'd, L> {
     }
 
     fn frame(&mut self, channel: u8, place: u32) -> i16 {
-        what_stands_stood_before();
+        songs_agree_with_earlier_notes();
         ask(
             self.shared,
             self.pass,
@@ -185,7 +185,7 @@ impl<'a, 'b, 'c, 'd, L: Ledger> SongView for PlayerView<'a, 'b, 'c, 'd, L> {
     }
 
     fn frames(&mut self, channel: u8, first: u32, out: &mut [i16]) {
-        what_stands_stood_before();
+        songs_agree_with_earlier_notes();
         run_of(
             self.shared,
             self.pass,
@@ -198,7 +198,7 @@ impl<'a, 'b, 'c, 'd, L: Ledger> SongView for PlayerView<'a, 'b, 'c, 'd, L> {
     }
 
     fn stop(&mut self, channel: u8) {
-        what_stands_stood_before();
+        songs_agree_with_earlier_notes();
         sit(
             self.shared,
             self.pass,

@@ -13,7 +13,7 @@ pub returns-clause-word : goal.returns-clause-word
 returns-clause-word g c = λ songs stands seated.
     let mid = c.body_for-body.new.pass in
     let new = c.read_word.new.pass in
-    let before = c.what_stands_stood_before.ensures songs mid new (played_read mid new c.read_word.ensures.on) stands in
+    let before = c.songs_agree_with_earlier_notes.ensures songs mid new (played_read mid new c.read_word.ensures.on) stands in
     c.read_word.ensures.word songs stands seated (c.body_for-body.ensures.body songs before seated)
 
 pub returns-clause-cost : goal.returns-clause-cost

@@ -18,7 +18,7 @@ returns-clause-words g c = λ songs stands seated is.
     let word = c.next_word-word.result in
     let front = c.follow_whole-trail.new.out in
     let back = c.unpack_part.new.out in
-    let before = c.what_stands_stood_before.ensures songs mid new (played_read mid new c.next_word-word.ensures.on) stands in
+    let before = c.songs_agree_with_earlier_notes.ensures songs mid new (played_read mid new c.next_word-word.ensures.on) stands in
     let w = c.follow_whole-trail.ensures.words songs before seated is in
     let here = c.next_word-word.ensures.word songs stands seated w.0 in (
       λ other kept. elim kept [

@@ -20,7 +20,7 @@ loop-k-preserved g c =
     let number : word.number ≡ a.from.number + 1 + i = omega arith in
     record {
       words = λ songs stands seated is.
-          let before = c.what_stands_stood_before.ensures songs mid new (played_read mid new c.next_word-word.ensures.on) stands in
+          let before = c.songs_agree_with_earlier_notes.ensures songs mid new (played_read mid new c.next_word-word.ensures.on) stands in
           let w = c.loop-k.invariant.words songs before seated is in
           let here = c.next_word-word.ensures.word songs stands seated w.0 in (
             here,

@@ -10,7 +10,7 @@ returns-clause-word g c = λ songs stands seated is.
     let seat = c.args.seat.now in
     let mid = c.next_body-body.new.pass in
     let new = c.read_word.new.pass in
-    let before = c.what_stands_stood_before.ensures songs mid new (played_read mid new c.read_word.ensures.on) stands in
+    let before = c.songs_agree_with_earlier_notes.ensures songs mid new (played_read mid new c.read_word.ensures.on) stands in
     let same : c.args.word.number + 1 ≡ (c.args.word.number + 1) * 4 / 4 = omega arith in
     c.read_word.ensures.word songs stands seated
     (c.next_body-body.ensures.body songs before seated is

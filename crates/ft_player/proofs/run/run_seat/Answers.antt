@@ -35,7 +35,7 @@ returns-clause-values g c = λ songs stands seated.
     let asked = c.word_for-word.ensures.asked in
     let from = c.newest_of-from.result in
     let front = c.unpack_part-2.new.out in
-    let before = c.what_stands_stood_before.ensures songs mid c.follow-words.new.pass
+    let before = c.songs_agree_with_earlier_notes.ensures songs mid c.follow-words.new.pass
     (played_read mid c.follow-words.new.pass c.follow-words.ensures.followed.on) stands in
     let there = asked.seated songs before seated in
     let w = c.follow-words.ensures.words songs stands there (there.kept from (inl c.newest_of-from.ensures)) in
@@ -79,7 +79,7 @@ returns-clause-asked g c =
     asked_more a.first many a.pass.now mid new a.seat.now there words a.steps.now c.word_for-word.new.steps
     c.follow-words.new.steps c.requires.some (omega arith) asked
     (λ songs stands seated.
-    let before = c.what_stands_stood_before.ensures songs mid new (played_read mid new c.follow-words.ensures.followed.on) stands in
+    let before = c.songs_agree_with_earlier_notes.ensures songs mid new (played_read mid new c.follow-words.ensures.followed.on) stands in
     let kept = asked.seated songs before seated in
     let w = c.follow-words.ensures.words songs stands kept (kept.kept from (inl c.newest_of-from.ensures)) in record {
       head = kept.head;

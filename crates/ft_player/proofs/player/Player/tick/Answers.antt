@@ -1,14 +1,15 @@
 use Rattle.std.proofs.Common.{rules, ◌≡◌, ◌≤◌, ◌+◌, refl, sym, ap, subst, ◌∙◌}
 use Rattle.ft_shared.specs.Pass.{ReaderState, RegisterId}
+use Rattle.ft_image.specs.Passes.{AreCounted}
 use Rattle.ft_player.specs.Behind.{Stands}
 use Rattle.ft_player.specs.Inner.{player_state}
 use Rattle.ft_replay.specs.Tick.{seq_tick, tick_state_of}
 use Rattle.ft_play.specs.Mixed.{voices_of}
 use Rattle.ft_player.specs.Songs.{song_at}
 use Rattle.ft_player.specs.Bounds.{step_bound, slow_bound}
-use Rattle.ft_player.specs.Player.{PlayerState, stood_by}
+use Rattle.ft_player.specs.Player.{PlayerState, HasLooked, stood_by}
 use Rattle.ft_player.proofs.Bounded.{through, within, within_slow}
-use Rattle.ft_player.proofs.Ordered.{ordered}
+use Rattle.ft_player.proofs.Ordered.{counted_on, has_looked, ordered}
 use Rattle.ft_player.proofs.Renewing.{stood}
 use Rattle.ft_player.proofs.player.Player.tick.Goals as goal
 
@@ -63,6 +64,23 @@ returns-clause-played g c = λ songs stands.
             c.self.view_is;
       },
     )
+
+pub returns-clause-looked : goal.returns-clause-looked
+returns-clause-looked g c =
+    subst (λ (p : PlayerState). HasLooked p.pass.notes c.play_tick-at.new.view.pass.now.notes c.renew-held.result.version)
+    c.self.view_is
+    (has_looked c.self.inside.pass c.renew-held.new.pass c.play_tick-at.new.view.pass.now c.renew-held.result
+    c.renew-held.ensures.renewed c.play_tick-at.ensures.same.6 c.self.invariant.order.taken)
+
+pub returns-clause-counted : goal.returns-clause-counted
+returns-clause-counted g c =
+    let after = c.play_tick-at.new.view.steps.now in
+    let pass = c.play_tick-at.new.view.pass.now in
+    let counted : AreCounted c.args.self.now.pass pass c.args.steps.now after =
+    subst (λ (p : PlayerState). AreCounted p.pass pass c.args.steps.now after) c.self.view_is
+    (counted_on c.self.inside.pass c.renew-held.new.pass pass c.args.steps.now c.renew-held.new.steps after
+    c.renew-held.ensures.counted c.play_tick-at.ensures.same.7) in
+    search (rules, counted)
 
 pub returns-clause-order : goal.returns-clause-order
 returns-clause-order g c =

@@ -31,15 +31,15 @@ invariant_of-self g c =
       seated = λ songs d stands.
           asked_seated songs seats c.ask.new.seats.items channel d (reworded words (get_or seats channel None)) inside c.ask.ensures.rest.1
           (c.ask.ensures.seated songs stands
-          (old.seated songs channel (c.what_stands_stood_before.ensures songs old.pass.now c.ask.new.pass on stands)))
-          (old.seated songs d (c.what_stands_stood_before.ensures songs old.pass.now c.ask.new.pass on stands));
+          (old.seated songs channel (c.songs_agree_with_earlier_notes.ensures songs old.pass.now c.ask.new.pass on stands)))
+          (old.seated songs d (c.songs_agree_with_earlier_notes.ensures songs old.pass.now c.ask.new.pass on stands));
     }
 
 pub returns-clause-shows : goal.returns-clause-shows
 returns-clause-shows g c = λ w stands.
     let old = c.args.self.now in
     let on = played_read old.pass.now c.ask.new.pass c.ask.ensures.on in (
-      c.what_stands_stood_before.ensures w old.pass.now c.ask.new.pass on stands,
+      c.songs_agree_with_earlier_notes.ensures w old.pass.now c.ask.new.pass on stands,
       ap (λ (l : List (Option Owned)). record { version = old.version; song = song_at w old.version; kept = l })
           (same_at (owned_by w) c.ask.ensures.rest.0 old.seats.now.items c.ask.new.seats.items c.args.channel c.ask.ensures.rest.1
           (reworded_owned w c.ask.ensures.rest.0)),
@@ -49,7 +49,7 @@ pub returns-clause-value : goal.returns-clause-value
 returns-clause-value g c = λ w stands.
     let old = c.args.self.now in
     let on = played_read old.pass.now c.ask.new.pass c.ask.ensures.on in
-    let before = c.what_stands_stood_before.ensures w old.pass.now c.ask.new.pass on stands in
+    let before = c.songs_agree_with_earlier_notes.ensures w old.pass.now c.ask.new.pass on stands in
     let fits : FitsSigned w16 c.ask.result = search rules in
     to_z-of_z w16 c.ask.result fits
     ∙ c.ask.ensures.value w stands (old.seated w c.args.channel before)

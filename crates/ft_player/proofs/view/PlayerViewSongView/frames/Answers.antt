@@ -29,15 +29,15 @@ invariant_of-self g c =
       seated = λ songs d stands.
           asked_seated songs seats c.run_of.new.seats.items channel d (reworded words (get_or seats channel None)) inside c.run_of.ensures.rest.1
           (c.run_of.ensures.seated songs stands
-          (old.seated songs channel (c.what_stands_stood_before.ensures songs old.pass.now c.run_of.new.pass on stands)))
-          (old.seated songs d (c.what_stands_stood_before.ensures songs old.pass.now c.run_of.new.pass on stands));
+          (old.seated songs channel (c.songs_agree_with_earlier_notes.ensures songs old.pass.now c.run_of.new.pass on stands)))
+          (old.seated songs d (c.songs_agree_with_earlier_notes.ensures songs old.pass.now c.run_of.new.pass on stands));
     }
 
 pub returns-clause-shows : goal.returns-clause-shows
 returns-clause-shows g c = λ w stands.
     let old = c.args.self.now in
     let on = played_read old.pass.now c.run_of.new.pass c.run_of.ensures.run.on in (
-      c.what_stands_stood_before.ensures w old.pass.now c.run_of.new.pass on stands,
+      c.songs_agree_with_earlier_notes.ensures w old.pass.now c.run_of.new.pass on stands,
       ap (λ (l : List (Option Owned)). record { version = old.version; song = song_at w old.version; kept = l })
           (same_at (owned_by w) c.run_of.ensures.rest.0 old.seats.now.items c.run_of.new.seats.items c.args.channel c.run_of.ensures.rest.1
           (reworded_owned w c.run_of.ensures.rest.0)),
@@ -47,7 +47,7 @@ pub returns-clause-values : goal.returns-clause-values
 returns-clause-values g c = λ w stands k lt.
     let old = c.args.self.now in
     let on = played_read old.pass.now c.run_of.new.pass c.run_of.ensures.run.on in
-    let before = c.what_stands_stood_before.ensures w old.pass.now c.run_of.new.pass on stands in
+    let before = c.songs_agree_with_earlier_notes.ensures w old.pass.now c.run_of.new.pass on stands in
     c.run_of.ensures.values w stands (old.seated w c.args.channel before) k lt
     ∙ ap (λ (o : Option Owned). frame_of o (c.args.first + k)) (sym (owned_at w old.seats.now.items c.args.channel))
 

@@ -30,10 +30,10 @@ invariant_of-self g c =
           ∙ ap (λ (l : List (Option Pin)). set l channel (pin_in seat)) (ap (λ (x : ReaderState). x.notes.pins) read ∙ old.pins)
           ∙ sym (ap (map pin_in) c.sit.ensures.seats ∙ map-set pin_in seats channel seat);
       seated = λ songs d stands.
-          let here = c.what_stands_stood_before.ensures songs mid c.sit.new.pass on stands in
+          let here = c.songs_agree_with_earlier_notes.ensures songs mid c.sit.new.pass on stands in
           subst (λ (l : List (Option Seat)). IsSeated songs (get_or l d None)) (sym c.sit.ensures.seats)
           (set_seated songs seats channel d seat inside (λ s e. c.begun_seat-seat.ensures.seated songs s here e)
-          (old.seated songs d (c.what_stands_stood_before.ensures songs old.pass.now mid
+          (old.seated songs d (c.songs_agree_with_earlier_notes.ensures songs old.pass.now mid
           (played_read old.pass.now mid c.begun_seat-seat.ensures.on) here)));
     }
 
@@ -41,8 +41,8 @@ pub returns-clause-shows : goal.returns-clause-shows
 returns-clause-shows g c = λ w stands.
     let old = c.args.self.now in
     let mid = c.begun_seat-seat.new.pass in
-    let here = c.what_stands_stood_before.ensures w mid c.sit.new.pass c.sit.ensures.on stands in (
-      c.what_stands_stood_before.ensures w old.pass.now mid (played_read old.pass.now mid c.begun_seat-seat.ensures.on) here,
+    let here = c.songs_agree_with_earlier_notes.ensures w mid c.sit.new.pass c.sit.ensures.on stands in (
+      c.songs_agree_with_earlier_notes.ensures w old.pass.now mid (played_read old.pass.now mid c.begun_seat-seat.ensures.on) here,
       ap (shown_by w old.version) c.sit.ensures.seats
           ∙ sets w old.version old.seats.now.items c.args.channel c.begun_seat-seat.result
           ∙ ap (λ (o : Option Owned). keeping c.args.channel o (shown_by w old.version old.seats.now.items))
@@ -51,7 +51,7 @@ returns-clause-shows g c = λ w stands.
 
 pub returns-clause-value : goal.returns-clause-value
 returns-clause-value g c = λ w stands.
-    let here = c.what_stands_stood_before.ensures w c.begun_seat-seat.new.pass c.sit.new.pass c.sit.ensures.on stands in
+    let here = c.songs_agree_with_earlier_notes.ensures w c.begun_seat-seat.new.pass c.sit.new.pass c.sit.ensures.on stands in
     c.head_of.ensures
     ∙ head_owned w c.begun_seat-seat.result (λ s e. c.begun_seat-seat.ensures.seated w s here e)
     ∙ ap head_of_owned (c.begun_seat-seat.ensures.begins w here)

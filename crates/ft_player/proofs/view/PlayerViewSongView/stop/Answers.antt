@@ -23,13 +23,13 @@ invariant_of-self g c =
       seated = λ songs d stands.
           subst (λ (l : List (Option Seat)). IsSeated songs (get_or l d None)) (sym c.sit.ensures.seats)
           (set_seated songs seats channel d None inside (none_seated songs)
-          (old.seated songs d (c.what_stands_stood_before.ensures songs _ _ on stands)));
+          (old.seated songs d (c.songs_agree_with_earlier_notes.ensures songs _ _ on stands)));
     }
 
 pub returns-clause-shows : goal.returns-clause-shows
 returns-clause-shows g c = λ w stands.
     let old = c.args.self.now in (
-      c.what_stands_stood_before.ensures w old.pass.now c.sit.new.pass c.sit.ensures.on stands,
+      c.songs_agree_with_earlier_notes.ensures w old.pass.now c.sit.new.pass c.sit.ensures.on stands,
       ap (shown_by w old.version) c.sit.ensures.seats ∙ sets w old.version old.seats.now.items c.args.channel None,
     )
 

@@ -1,0 +1,3 @@
+-- A tick has no loop,
+-- and it counts on the counter that it is given:
+-- it makes none of its own.
