@@ -3,6 +3,7 @@ use Rattle.std.specs.Prelude.{ℕ}
 use Rattle.ft_types.specs.declared.pattern.Pattern.{Pattern}
 use Rattle.ft_types.specs.declared.pattern.Cell.{Cell}
 use Rattle.ft_types.specs.declared.instrument.Instrument.{Instrument}
+use Rattle.ft_types.specs.declared.instrument.Envelope.{Envelope}
 use Rattle.ft_types.specs.declared.sample.Sample.{Sample}
 use Rattle.ft_types.specs.declared.edit.Edit.{Edit}
 use Rattle.ft_types.specs.declared.edit.Edit.TheVariants as edits
@@ -27,6 +28,12 @@ pattern_changed channels (edits.Rows p n) pattern = with_rows channels n pattern
 pattern_changed channels (edits.Insrow p r) pattern = with_new_row channels r pattern
 pattern_changed channels (edits.Delrow p r) pattern = without_row channels r pattern
 pattern_changed channels _ pattern = pattern
+
+abbrev pub envelope_changed : Edit → Envelope → Envelope
+envelope_changed (edits.Env i w count sus ls le flags) envelope =
+    with_head count sus ls le flags envelope
+envelope_changed (edits.Point i w k x y) envelope = with_point k (record { x = x; y = y }) envelope
+envelope_changed _ envelope = envelope
 
 abbrev pub instrument_changed : Edit → Instrument → Instrument
 instrument_changed (edits.Clearins i) instrument = zero_instrument
