@@ -1,12 +1,12 @@
 //! Edits of an instrument, done in place.
 
 ghost use Rattle.std.specs.Prelude.{◌≡◌, ◌≤◌, ◌<◌, ◌+◌, [], set, length, OnOk, OnErr};
-ghost use Rattle.ft_types.specs.Valid.{IsValid, IsValidInstrument};
-ghost use Rattle.ft_edits.specs.Instruments.{with_instrument, zero_envelope, named_only, with_map, with_envelope, with_head, with_point};
+ghost use Rattle.ft_types.specs.Valid.{IsValid, IsValidInstrument, IsValidEnvelope};
+ghost use Rattle.ft_edits.specs.Instruments.{with_instrument, zero_envelope, named_only, with_map, with_envelope};
 ghost use Rattle.ft_edits.specs.Samples.{new_sample, with_new_sample, without_sample};
 ghost use Rattle.ft_edits.specs.Lists.{without_last};
 ghost use Rattle.ft_edits.specs.Allowed.{Allows};
-ghost use Rattle.ft_edits.specs.Changes.{instrument_changed};
+ghost use Rattle.ft_edits.specs.Changes.{envelope_changed, instrument_changed};
 ghost use Rattle.ft_edits.specs.Edited.{edited};
 ghost use Rattle.ft_edits.specs.Groups.{group_of};
 ghost use Rattle.ft_check.specs.Changes.{SuitsInstrument};
@@ -65,15 +65,32 @@ fn new_sample(alloc: Global) -> Sample
     }
 }
 
-/// Sets the head of an envelope.
-fn set_head(envelope: &mut Envelope, count: u8, sus: u8, ls: u8, le: u8, flags: u8)
-    ensures { envelope.new ≡ with_head count sus ls le flags envelope.old }
+/// Changes an envelope.
+fn change_envelope(envelope: &mut Envelope, e: &Edit)
+    requires valid { IsValidEnvelope envelope.old }
+    requires there { SuitsInstrument e.now }
+    ensures { envelope.new ≡ envelope_changed e.now envelope.old }
 {
-    envelope.count = count;
-    envelope.sustain = sus;
-    envelope.loop_start = ls;
-    envelope.loop_end = le;
-    envelope.flags = flags;
+    match *e {
+        Edit::Env {
+            count,
+            sus,
+            ls,
+            le,
+            flags,
+            ..
+        } => {
+            envelope.count = count;
+            envelope.sustain = sus;
+            envelope.loop_start = ls;
+            envelope.loop_end = le;
+            envelope.flags = flags;
+        }
+        Edit::Point { k, x, y, .. } => {
+            envelope.points[k as usize] = Point { x, y: u16::from(y) };
+        }
+        _ => {}
+    }
 }
 
 /// Takes the last sample out, and with the only one all but the name.
@@ -99,27 +116,11 @@ fn change(alloc: Global, instrument: &mut Instrument, e: &Edit) -> Result<(), No
         Edit::Clearins { .. } => *instrument = named_only(alloc, [0; 22]),
         Edit::Insname { name, .. } => instrument.name = name,
         Edit::Map { n, k, .. } => instrument.map[n as usize] = k,
-        Edit::Env {
-            w,
-            count,
-            sus,
-            ls,
-            le,
-            flags,
-            ..
-        } => {
+        Edit::Env { w, .. } | Edit::Point { w, .. } => {
             if w == 0 {
-                set_head(&mut instrument.volume, count, sus, ls, le, flags);
+                change_envelope(&mut instrument.volume, e);
             } else {
-                set_head(&mut instrument.panning, count, sus, ls, le, flags);
-            }
-        }
-        Edit::Point { w, k, x, y, .. } => {
-            let point = Point { x, y: u16::from(y) };
-            if w == 0 {
-                instrument.volume.points[k as usize] = point;
-            } else {
-                instrument.panning.points[k as usize] = point;
+                change_envelope(&mut instrument.panning, e);
             }
         }
         Edit::Vib {

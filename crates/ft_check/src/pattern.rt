@@ -5,7 +5,7 @@ ghost use Rattle.ft_types.specs.Valid.{IsValid, IsValidPattern};
 ghost use Rattle.ft_types.specs.Views.{empty_cell, rows_at};
 ghost use Rattle.ft_edits.specs.Patterns.{with_pattern, with_cell, with_rows, with_new_row, without_row, empty_rows};
 ghost use Rattle.ft_edits.specs.Allowed.{Allows};
-ghost use Rattle.ft_edits.specs.Changes.{pattern_changed};
+ghost use Rattle.ft_edits.specs.Changes.{rows_changed};
 ghost use Rattle.ft_edits.specs.Edited.{edited};
 ghost use Rattle.ft_edits.specs.Groups.{group_of};
 ghost use Rattle.ft_check.specs.Changes.{SuitsRows};
@@ -92,7 +92,7 @@ fn remove_row(cells: &mut [Cell], at: usize, channels: usize)
 fn change(alloc: Global, pattern: &mut Pattern, channels: u8, e: &Edit) -> Result<(), NoMemory>
     requires valid { IsValidPattern channels pattern.old }
     requires there { SuitsRows pattern.old.rows e.now }
-    ensures ok { OnOk result (pattern.new ≡ pattern_changed channels e.now pattern.old) }
+    ensures ok { OnOk result (pattern.new ≡ rows_changed channels e.now pattern.old) }
     ensures err { OnErr result (pattern.new ≡ pattern.old) }
 {
     let width = usize::from(channels);
@@ -136,7 +136,7 @@ fn change(alloc: Global, pattern: &mut Pattern, channels: u8, e: &Edit) -> Resul
 fn change_pattern(alloc: Global, m: &mut Module, p: u8, e: &Edit) -> Result<(), NoMemory>
     requires valid { IsValid m.old }
     requires there { SuitsRows (rows_at m.old p) e.now }
-    ensures ok { OnOk result (m.new ≡ with_pattern p (pattern_changed m.old.channels e.now) m.old) }
+    ensures ok { OnOk result (m.new ≡ with_pattern p (rows_changed m.old.channels e.now) m.old) }
     ensures err { OnErr result (m.new ≡ m.old) }
 {
     let channels = m.channels;

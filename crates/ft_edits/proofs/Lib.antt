@@ -7,3 +7,4 @@ mod InstrumentFacts
 mod SampleFacts
 mod Valid
 mod Allowed
+mod ChangedOne

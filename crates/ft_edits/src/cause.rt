@@ -1,29 +1,36 @@
 //! The causes for which an edit is refused, one by one, by the sizes of a song.
 
 ghost use Rattle.std.specs.Prelude.{◌≡◌, ◌≤◌, ◌+◌, ◌-◌, ◌&&◌, ◌||◌, None, length, nat_lt, nat_le, nat_eq, pos, if◌then◌else◌};
-ghost use Rattle.ft_edits.specs.Numbers.{field_size, most_frames, kind_frames};
-ghost use Rattle.ft_edits.specs.Faults.{unless, first_of, out_of_range, over_limit, missing_order, is_narrow, narrow_frames};
+ghost use Rattle.ft_edits.specs.Numbers.{most_frames, kind_frames};
+ghost use Rattle.ft_edits.specs.Faults.{unless, out_of_range, over_limit, missing_order, is_narrow, narrow_frames};
 
 use crate::numbers::{field, kind, most};
 use crate::sizes::{SampleSizes, SongSizes};
 use ft_types::EditFault;
 
 /// A cause for which an edit is refused, unless this holds.
-pub(crate) fn unless(test: bool, fault: EditFault) -> Option<EditFault>
+fn unless(test: bool, fault: EditFault) -> Option<EditFault>
     ensures { result ≡ unless test fault }
 {
     if test { None } else { Some(fault) }
+}
+
+/// The number of this field is wrong, unless this holds.
+pub(crate) fn wrong(test: bool, field: u8, found: u16) -> Option<EditFault>
+    ensures { result ≡ unless test (EditFault.Range field (pos found)) }
+{
+    let fault = EditFault::Range {
+        field,
+        found: i64::from(found),
+    };
+    unless(test, fault)
 }
 
 /// Unless the number of this field is in a range.
 pub(crate) fn out_of_range(field: u8, low: u16, high: u16, found: u16) -> Option<EditFault>
     ensures { result ≡ out_of_range field low high found }
 {
-    let fault = EditFault::Range {
-        field,
-        found: i64::from(found),
-    };
-    unless(low <= found && found <= high, fault)
+    wrong(low <= found && found <= high, field, found)
 }
 
 /// Unless the byte of this field is at most this.
@@ -34,10 +41,17 @@ pub(crate) fn over(field: u8, high: u8, found: u8) -> Option<EditFault>
 }
 
 /// Unless there would be at most so many.
-pub(crate) fn over_limit(what: u8, most: u32, count: u32) -> Option<EditFault>
+fn over_limit(what: u8, most: u32, count: u32) -> Option<EditFault>
     ensures { result ≡ over_limit what most count }
 {
     unless(count <= most, EditFault::TooMany { what, count })
+}
+
+/// Unless there may be one more.
+pub(crate) fn one_more(what: u8, most: u32, count: u16) -> Option<EditFault>
+    ensures { result ≡ over_limit what most (count + 1) }
+{
+    over_limit(what, most, u32::from(count) + 1)
 }
 
 /// Unless the pattern is stored.

@@ -1,50 +1,33 @@
 //! The first fault of an edit.
 
-ghost use Rattle.std.specs.Prelude.{◌≡◌, []};
+ghost use Rattle.std.specs.Prelude.{◌≡◌, ◌∷◌, []};
 ghost use Rattle.ft_types.specs.declared.module.Module.{Module};
 ghost use Rattle.ft_types.specs.Edits.{IsGivable};
 ghost use Rattle.ft_types.specs.Views.{rows_at};
+ghost use Rattle.ft_edits.specs.Numbers.{field_which, field_count, field_index, field_flags};
 ghost use Rattle.ft_edits.specs.Groups.{group_of};
 ghost use Rattle.ft_edits.specs.Sizes.{song_sizes, sample_sizes};
-ghost use Rattle.ft_edits.specs.Faults.{unless, first_of, fault_of, block_of, sampled, framed};
+ghost use Rattle.ft_edits.specs.Faults.{first_of, fault_of, out_of_range, block_of, sampled, framed};
 
 use crate::cause::{
     loop_past, missing_channel, missing_frames, missing_instrument, missing_order, missing_pattern,
-    missing_row, missing_sample, out_of_range, over, over_limit, too_many_frames, too_wide, unless,
+    missing_row, missing_sample, one_more, out_of_range, over, too_many_frames, too_wide, wrong,
 };
 use crate::group::{Group, group_of};
 use crate::numbers::{field, kind, most};
 use crate::sizes::{SampleSizes, SizeView, SongSizes};
 use ft_types::{Edit, EditFault};
 
-/// A block of a pattern: `h` rows of `w` channels from row `r` and channel `c`.
-#[derive(Clone, Copy)]
-struct Place {
-    /// Pattern.
-    p: u8,
-    /// First row.
-    r: u16,
-    /// First channel.
-    c: u8,
-    /// Rows.
-    h: u16,
-    /// Channels.
-    w: u8,
-}
-
-/// The first fault of a block in a pattern of so many rows.
-fn block_fault(song: SongSizes, rows: u16, at: Place) -> Option<EditFault>
-    ensures { (m : Module) → song ≡ song_sizes m → rows ≡ rows_at m at.p
-        → result ≡ first_of (block_of m at.p at.r at.c at.h at.w) }
+/// The first fault of a block, `h` rows of `w` channels from row `r` and channel `c`, in a pattern of
+/// so many rows.
+fn block_fault(song: SongSizes, rows: u16, p: u8, r: u16, c: u8, h: u16, w: u8) -> Option<EditFault>
+    ensures { (m : Module) → song ≡ song_sizes m → rows ≡ rows_at m p
+        → result ≡ first_of (block_of m p r c h w) }
 {
-    let size = EditFault::Range {
-        field: field::SIZE,
-        found: 0,
-    };
-    let row = (u32::from(at.r) + u32::from(at.h)).saturating_sub(1);
-    let channel = (u16::from(at.c) + u16::from(at.w)).saturating_sub(1);
-    missing_pattern(song, at.p)
-        .or(unless(0 < at.h && 0 < at.w, size))
+    let row = (u32::from(r) + u32::from(h)).saturating_sub(1);
+    let channel = (u16::from(c) + u16::from(w)).saturating_sub(1);
+    missing_pattern(song, p)
+        .or(wrong(0 < h && 0 < w, field::SIZE, 0))
         .or(missing_row(rows, row))
         .or(missing_channel(song, channel))
 }
@@ -69,7 +52,7 @@ fn pattern_fault<S: SizeView>(view: &mut S, song: SongSizes, e: &Edit) -> Option
             missing_pattern(song, p).or(missing_row(view.rows(p), u32::from(r)))
         }
         Edit::Clear { p, r, c, h, w } | Edit::Transpose { p, r, c, h, w, .. } => {
-            block_fault(song, view.rows(p), Place { p, r, c, h, w })
+            block_fault(song, view.rows(p), p, r, c, h, w)
         }
         Edit::Copy {
             p,
@@ -81,18 +64,9 @@ fn pattern_fault<S: SizeView>(view: &mut S, song: SongSizes, e: &Edit) -> Option
             r2,
             c2,
         } => {
-            let to = Place {
-                p: q,
-                r: r2,
-                c: c2,
-                h,
-                w,
-            };
-            block_fault(song, view.rows(p), Place { p, r, c, h, w }).or(block_fault(
-                song,
-                view.rows(q),
-                to,
-            ))
+            let from = block_fault(song, view.rows(p), p, r, c, h, w);
+            let to = block_fault(song, view.rows(q), q, r2, c2, h, w);
+            from.or(to)
         }
         _ => None,
     }
@@ -107,26 +81,38 @@ fn song_fault(song: SongSizes, e: &Edit) -> Option<EditFault>
     match *e {
         Edit::Order { pos, .. } | Edit::Restart { pos } => missing_order(orders, pos),
         Edit::Insorder { pos, .. } => {
-            let more = over_limit(kind::ORDERS, most::ORDERS, orders + 1);
-            missing_order(orders + 1, pos).or(more)
+            missing_order(orders + 1, pos).or(one_more(kind::ORDERS, most::ORDERS, song.orders))
         }
         Edit::Delorder { pos } => {
-            let only = EditFault::Range {
-                field: field::LENGTH,
-                found: 0,
-            };
-            missing_order(orders, pos).or(unless(1 < orders, only))
+            missing_order(orders, pos).or(wrong(1 < orders, field::LENGTH, 0))
         }
         Edit::Tempo { n } => out_of_range(field::TEMPO, 1, 31, u16::from(n)),
         Edit::Bpm { n } => out_of_range(field::BPM, 32, 255, u16::from(n)),
-        Edit::Newpat { n } => over_limit(
-            kind::PATTERNS,
-            most::PATTERNS,
-            u32::from(song.patterns) + 1,
-        ).or(out_of_range(field::ROWS, 1, most::ROWS, n)),
+        Edit::Newpat { n } => {
+            let more = one_more(kind::PATTERNS, most::PATTERNS, song.patterns);
+            more.or(out_of_range(field::ROWS, 1, most::ROWS, n))
+        }
         Edit::Delpat => missing_pattern(song, 0),
         _ => None,
     }
+}
+
+/// The first fault of the head of an envelope.
+fn head_fault(w: u8, count: u8, sus: u8, ls: u8, le: u8, flags: u8) -> Option<EditFault>
+    ensures { result ≡ first_of (out_of_range field_which 0 1 w
+        ∷ out_of_range field_count 0 12 count
+        ∷ out_of_range field_index 0 11 sus
+        ∷ out_of_range field_index 0 11 ls
+        ∷ out_of_range field_index 0 11 le
+        ∷ out_of_range field_flags 0 7 flags
+        ∷ []) }
+{
+    over(field::WHICH, 1, w)
+        .or(over(field::COUNT, 12, count))
+        .or(over(field::INDEX, 11, sus))
+        .or(over(field::INDEX, 11, ls))
+        .or(over(field::INDEX, 11, le))
+        .or(over(field::FLAGS, 7, flags))
 }
 
 /// The first fault of an edit of an instrument.
@@ -138,11 +124,7 @@ fn instrument_fault<S: SizeView>(view: &mut S, song: SongSizes, e: &Edit) -> Opt
     ensures same { S.same view.old view.new }
 {
     match *e {
-        Edit::Newins => over_limit(
-            kind::INSTRUMENTS,
-            most::INSTRUMENTS,
-            u32::from(song.instruments) + 1,
-        ),
+        Edit::Newins => one_more(kind::INSTRUMENTS, most::INSTRUMENTS, song.instruments),
         Edit::Clearins { i } | Edit::Insname { i, .. } => missing_instrument(song, i),
         Edit::Map { i, n, k } => sample_fault(song, view.sample(i, 0), i, 0)
             .or(over(field::INDEX, 95, n))
@@ -155,13 +137,10 @@ fn instrument_fault<S: SizeView>(view: &mut S, song: SongSizes, e: &Edit) -> Opt
             ls,
             le,
             flags,
-        } => sample_fault(song, view.sample(i, 0), i, 0)
-            .or(over(field::WHICH, 1, w))
-            .or(over(field::COUNT, 12, count))
-            .or(over(field::INDEX, 11, sus))
-            .or(over(field::INDEX, 11, ls))
-            .or(over(field::INDEX, 11, le))
-            .or(over(field::FLAGS, 7, flags)),
+        } => {
+            let head = head_fault(w, count, sus, ls, le, flags);
+            sample_fault(song, view.sample(i, 0), i, 0).or(head)
+        }
         Edit::Point { i, w, k, y, .. } => sample_fault(song, view.sample(i, 0), i, 0)
             .or(over(field::WHICH, 1, w))
             .or(over(field::INDEX, 11, k))
@@ -214,8 +193,8 @@ fn sample_edit_fault<S: SizeView>(view: &mut S, song: SongSizes, e: &Edit) -> Op
 {
     match *e {
         Edit::Newsmp { i } => {
-            let count = u32::from(view.sample(i, 0).samples) + 1;
-            missing_instrument(song, i).or(over_limit(kind::SAMPLES, most::SAMPLES, count))
+            let samples = u16::from(view.sample(i, 0).samples);
+            missing_instrument(song, i).or(one_more(kind::SAMPLES, most::SAMPLES, samples))
         }
         Edit::Delsmp { i } => sample_fault(song, view.sample(i, 0), i, 0),
         Edit::Smpname { i, s, .. } => sample_fault(song, view.sample(i, s), i, s),
@@ -266,18 +245,12 @@ fn frame_edit_fault<S: SizeView>(view: &mut S, song: SongSizes, e: &Edit) -> Opt
             d,
             ..
         } => {
-            let divisor = EditFault::Range {
-                field: field::DIVISOR,
-                found: 0,
-            };
-            frames_fault(song, view.sample(*i, *s), *i, *s, *from, *to).or(unless(0 < *d, divisor))
+            let divisor = wrong(0 < *d, field::DIVISOR, 0);
+            frames_fault(song, view.sample(*i, *s), *i, *s, *from, *to).or(divisor)
         }
         Edit::Bits { i, s, b } => {
-            let bits = EditFault::Range {
-                field: field::BITS,
-                found: i64::from(*b),
-            };
-            sample_fault(song, view.sample(*i, *s), *i, *s).or(unless(*b == 8 || *b == 16, bits))
+            let bits = wrong(*b == 8 || *b == 16, field::BITS, u16::from(*b));
+            sample_fault(song, view.sample(*i, *s), *i, *s).or(bits)
         }
         _ => None,
     }
