@@ -1,7 +1,7 @@
 -- A player is in order again after a tick.
-use Rattle.std.proofs.Common.{◌≡◌, ◌≤◌, ◌⊎◌, ℕ, List, [], ◌∷◌, ◌++◌, All, Some, length, map, is_some, refl, sym, ap, subst, ◌∙◌, arith}
+use Rattle.std.proofs.Common.{◌≡◌, ◌≤◌, ◌<◌, ◌⊎◌, ℕ, Bool, List, [], ◌∷◌, ◌++◌, All, Some, length, map, is_some, refl, sym, ap, subst, ◌∙◌, arith}
 use Rattle.std.specs.List.{Contains}
-use Rattle.ft_replay.specs.Calls.{AreVoicesExact, AreVoicesKept}
+use Rattle.ft_replay.specs.Calls.{AreVoicesExact, AreVoicesKept, StaysExact}
 use Rattle.ft_replay.specs.Range.{IsSongInRange}
 use Rattle.ft_shared.specs.declared.law.TakenVersion.{TakenVersion}
 use Rattle.ft_shared.specs.declared.reader.Held.{Held}
@@ -24,6 +24,12 @@ still mid new on taken t e =
 
 pub same_register : (mid new : ReaderState) → HasPlayedOn mid new → new.register ≡ mid.register
 same_register mid new on = ap (λ (x : ReaderState). x.register) on.is
+
+-- each channel stays exact, so all do
+pub all_exact : (held held_after : List Bool) (voices voices_after : List Voice) → length held_after ≡ length held
+    → StaysExact held held_after voices voices_after → AreVoicesExact held voices
+    → AreVoicesExact held_after voices_after
+all_exact held held_after voices voices_after wide stays all = λ c lt. stays c (omega arith) (all c (omega arith))
 
 pub ordered : (old new : PlayerState) (mid : ReaderState) (held : Held) → IsInOrder old
     → mid.register ≡ old.pass.register → IsRenewed old.pass.notes mid.notes held → HasPlayedOn mid new.pass

@@ -9,7 +9,7 @@ use Rattle.ft_player.specs.Songs.{song_at}
 use Rattle.ft_player.specs.Bounds.{step_bound, slow_bound}
 use Rattle.ft_player.specs.Player.{PlayerState, HasLooked, stood_by}
 use Rattle.ft_player.proofs.Bounded.{through, within, within_slow}
-use Rattle.ft_player.proofs.Ordered.{counted_on, has_looked, ordered}
+use Rattle.ft_player.proofs.Ordered.{all_exact, counted_on, has_looked, ordered}
 use Rattle.ft_player.proofs.Renewing.{stood}
 use Rattle.ft_player.proofs.player.Player.tick.Goals as goal
 
@@ -39,7 +39,7 @@ invariant_of-self g c =
       order = ordered (player_state c.self.inside) _ c.renew-held.new.pass c.renew-held.result o
           c.renew-held.ensures.register c.renew-held.ensures.renewed t.same.6 refl t.used t.range
           (view.many ∙ ap (λ (x : RegisterId). x.sizes.channels) (sym t.same.0 ∙ sym same)) view.pins
-          (t.exact o.sounding) t.kept view.seated;
+          (all_exact _ _ _ _ t.wide t.exact o.sounding) t.kept view.seated;
     }
 
 pub returns-clause-played : goal.returns-clause-played
@@ -91,7 +91,7 @@ returns-clause-order g c =
     ordered (player_state c.self.inside) _ c.renew-held.new.pass c.renew-held.result o
     c.renew-held.ensures.register c.renew-held.ensures.renewed t.same.6 refl t.used t.range
     (view.many ∙ ap (λ (x : RegisterId). x.sizes.channels) (sym t.same.0 ∙ sym same)) view.pins
-    (t.exact o.sounding) t.kept view.seated
+    (all_exact _ _ _ _ t.wide t.exact o.sounding) t.kept view.seated
 
 pub returns-clause-steps : goal.returns-clause-steps
 returns-clause-steps g c =
