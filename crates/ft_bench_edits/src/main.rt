@@ -1,10 +1,10 @@
 //! Reads a line of a script, or does its edits, many times over, to be measured from outside by
 //! tools/edits_figures.sh.
 //!
-//! The words are `read`, a number and a line: the line is read so many times. Or they are `apply`, a
-//! number and lines: the edits of each line but the last are done once in a song of one note, and
-//! those of the last so many times. How many edits were read or done last is printed. With no words
-//! nothing is done.
+//! The words are `read`, a number and a line: the line is read that many times. Or they are
+//! `apply`, a number and lines: the edits of each line but the last are done once in a song of one
+//! note, and those of the last that many times. How many edits were read or done last is printed.
+//! With no words nothing is done.
 #![tactic(auto)]
 
 ghost use Rattle.std.specs.Prelude.{All, IfOk};
@@ -30,7 +30,7 @@ fn batch_of(alloc: Global, line: &[u8]) -> Result<TimedBatch>
     }
 }
 
-/// Reads a line, lets go of what it says, and tells how many edits it has; 0 where it has none.
+/// Reads a line, lets go of what it says, and answers how many edits it has; 0 where it has none.
 #[inline(never)]
 fn read_one(alloc: Global, line: &[u8]) -> usize {
     match read_batch(alloc, line) {
@@ -40,7 +40,7 @@ fn read_one(alloc: Global, line: &[u8]) -> usize {
     }
 }
 
-/// Reads a line, N times, and tells how many edits it has.
+/// Reads a line, N times, and answers how many edits it has.
 fn read_often(alloc: Global, line: &[u8], times: u32) -> usize {
     let mut count = 0;
     for _done in 0..times {
@@ -49,7 +49,7 @@ fn read_often(alloc: Global, line: &[u8], times: u32) -> usize {
     count
 }
 
-/// Does an edit, and tells whether it wasn't refused.
+/// Does an edit, and answers whether it wasn't refused.
 #[inline(never)]
 fn apply_one(alloc: Global, song: &mut Module, edit: &Edit) -> bool
     requires valid { IsValid song.old }
@@ -62,7 +62,7 @@ fn apply_one(alloc: Global, song: &mut Module, edit: &Edit) -> bool
     }
 }
 
-/// Does edits, each once, and tells how many weren't refused.
+/// Does edits, each once, and answers how many weren't refused.
 fn apply_once(alloc: Global, song: &mut Module, edits: &[Edit]) -> usize
     requires valid { IsValid song.old }
     requires givable { All IsGivable edits.now }

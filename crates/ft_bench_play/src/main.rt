@@ -1,7 +1,7 @@
 //! Plays ticks of a song over a plain module, to be measured from outside by tools/figures.sh.
 //!
-//! `ft_bench_play SONG RATE TICKS` plays so many ticks at 8,000 to 48,000 frames a second, and prints
-//! the first frame of the last one, left and right.
+//! `ft_bench_play SONG RATE TICKS` plays that many ticks at 8,000 to 48,000 frames a second, and
+//! prints the first frame of the last one, left and right.
 #![tactic(auto)]
 
 ghost use Rattle.std.specs.Prelude.{◌≡◌, ◌≤◌, length};

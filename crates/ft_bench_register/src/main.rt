@@ -209,7 +209,7 @@ enum Kind {
     Copy,
 }
 
-/// The words of so many segments, all 0.
+/// The words of that many segments, all 0.
 fn zero_words(alloc: Global, segments: u16) -> Result<Vec<u64>>
     requires { 1 ≤ segments }
     ensures long { IfOk result (λ words. length words.items ≡ 256 * segments) }

@@ -3,7 +3,7 @@ use Rattle.std.proofs.Common.{◌≡◌, ◌∙◌, Some, ap, sym, subst, arith,
 use Rattle.ft_types.specs.declared.voice.Voice.{Voice}
 use Rattle.ft_replay.specs.declared.state.Channel.{Channel}
 use Rattle.ft_replay.specs.Range.{IsVoiceInRange}
-use Rattle.ft_channel.specs.Staying.{Stays, sample_of}
+use Rattle.ft_channel.specs.Staying.{Stays, voice_head}
 
 pub stays_through : (first second third : Channel) → Stays first second → Stays second third → Stays first third
 stays_through first second third a b = record {
@@ -35,5 +35,5 @@ restart_stays channel voice is = record {
             let it : record voice { pos = 0 } ≡ other = cc in
             subst (λ (v : Voice). v.channel ≡ c) it (r.home voice is);
       };
-  sample = ap sample_of (sym is);
+  sample = ap voice_head (sym is);
 }

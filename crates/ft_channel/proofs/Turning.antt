@@ -14,7 +14,7 @@ use Rattle.ft_replay.specs.Rules.{slide_start, setting_start, slide_tick, swing_
 use Rattle.ft_replay.specs.VolumeColumn.{volume_start_of, volume_tick_of}
 use Rattle.ft_replay.specs.Row.{with_channel, with_offset, is_delayed, strike_of, delayed_strike, effect_start_of, effect_tick_of, row_start_of, row_tick_of, note_of, after_note}
 use Rattle.ft_replay.specs.Standing.{lane_of, turn_of, Became, Turned}
-use Rattle.ft_replay.specs.Calls.{Turns, TurnsShown}
+use Rattle.ft_replay.specs.Calls.{MakesTurn, MakesTurnShown}
 use Rattle.ft_channel.proofs.Starts.{keeping_same}
 use Rattle.ft_channel.specs.Looping.{Loops, turn_with}
 
@@ -118,8 +118,8 @@ pub turns_shown : {V W : Type 0}
     → (shows : V → W → Type 0) (shown : V → W → Shown) (rule : ℕ → Module → ℕ → Turn → Turn) (c : ℕ)
     (view view_after : V)
     (channel channel_after : Channel) (control control_after : Control)
-    → Turns shows shown rule c view view_after channel channel_after control control_after
-    → TurnsShown shows shown rule c view view_after channel channel_after control control_after
+    → MakesTurn shows shown rule c view view_after channel channel_after control control_after
+    → MakesTurnShown shows shown rule c view view_after channel channel_after control control_after
 turns_shown shows shown rule c view view_after channel channel_after control control_after turns after may =
     let w = may.0 in
     let made = turns w may.1 in

@@ -1,4 +1,4 @@
--- What the rules of one channel leave, whatever stands behind the view.
+-- What the rules of one channel leave, whatever is behind the view.
 use Rattle.std.specs.Prelude.{ℕ, ◌≡◌, ◌<◌, List, [], Option, None, Some, get_or, set}
 use Rattle.ft_types.specs.declared.voice.SampleHead.{SampleHead}
 use Rattle.ft_types.specs.declared.voice.Voice.{Voice}
@@ -9,14 +9,14 @@ use Rattle.ft_replay.specs.Range.{IsChannelInRange, IsTimed}
 -- ---- a channel
 
 -- the sample of a voice
-abbrev pub sample_of : Option Voice → Option SampleHead
-sample_of None = None
-sample_of (Some voice) = Some voice.head
+abbrev pub voice_head : Option Voice → Option SampleHead
+voice_head None = None
+voice_head (Some voice) = Some voice.head
 
 -- what was in range is in range still, and a voice sounds where one did, of the same sample
 pub record Stays (channel channel_after : Channel) : Type 0 where
   pub range : (c : ℕ) → IsChannelInRange c channel → IsChannelInRange c channel_after
-  pub sample : sample_of channel_after.voice ≡ sample_of channel.voice
+  pub sample : voice_head channel_after.voice ≡ voice_head channel.voice
 
 -- only this channel's words may be others
 abbrev pub WordsFor : ℕ → List (List ℕ) → List (List ℕ) → Type 0

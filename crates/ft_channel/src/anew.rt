@@ -16,7 +16,7 @@ fn is_instrument(cell: Cell) -> bool
 
 /// An instrument byte becomes the channel's instrument.
 pub fn take_instrument(channel: &mut Channel, cell: Cell)
-    ensures value { channel.new ≡ row.with_instrument cell channel.old }
+    ensures value { channel.new ≡ row.with_cell_instrument cell channel.old }
     ensures stays { Stays channel.old channel.new }
 {
     if cell.instrument != 0 {

@@ -124,10 +124,10 @@ pub fn row_start<V: SongView>(view: &mut V, ch: &mut Channel, ctl: &mut Control,
     requires channel { c < length (V.holds view.old) }
     requires range { IsChannelInRange c ch.old }
     requires row { ctl.old.row ≤ 255 }
-    ensures turned { calls.Turns V.shows V.shown
+    ensures turned { calls.MakesTurn V.shows V.shown
         (λ version song c. row.row_start_of version song c cell) c
         view.old view.new ch.old ch.new ctl.old ctl.new }
-    ensures shown { calls.TurnsShown V.shows V.shown
+    ensures shown { calls.MakesTurnShown V.shows V.shown
         (λ version song c. row.row_start_of version song c cell) c
         view.old view.new ch.old ch.new ctl.old ctl.new }
     ensures keeps { calls.KeepsFor c (V.keeps view.old) (V.keeps view.new)
@@ -192,10 +192,10 @@ fn strike_late<V: SongView>(
 pub fn row_tick<V: SongView>(view: &mut V, ch: &mut Channel, ctl: &mut Control, c: u8, u: u16)
     requires channel { c < length (V.holds view.old) }
     requires range { IsChannelInRange c ch.old }
-    ensures turned { calls.Turns V.shows V.shown
+    ensures turned { calls.MakesTurn V.shows V.shown
         (λ version song c. row.row_tick_of version song c u) c
         view.old view.new ch.old ch.new ctl.old ctl.new }
-    ensures shown { calls.TurnsShown V.shows V.shown
+    ensures shown { calls.MakesTurnShown V.shows V.shown
         (λ version song c. row.row_tick_of version song c u) c
         view.old view.new ch.old ch.new ctl.old ctl.new }
     ensures keeps { calls.KeepsFor c (V.keeps view.old) (V.keeps view.new)

@@ -8,7 +8,7 @@ ghost use Rattle.ft_channel.specs.Staying.{Stays};
 use ft_replay::Channel;
 use ft_tables::wave;
 
-/// So many parts of the height of a wave, rounded towards 0.
+/// That many parts of the height of a wave, rounded towards 0.
 #[tactic(auto, unfolding(ft_replay::specs::Swings::parts_of))]
 pub fn parts_of(height: i16, depth: u8, parts: u16) -> i16
     requires low { negsuc 254 ≤ℤ height }

@@ -13,7 +13,7 @@ use Rattle.ft_edits.specs.Patterns.{with_pattern, with_block, copied}
 use Rattle.ft_types.specs.declared.module.Module.{Module}
 use Rattle.ft_types.specs.declared.pattern.Pattern.{Pattern}
 use Rattle.ft_types.specs.Valid.{IsValid, IsValidPattern}
-use Rattle.ft_types.specs.Views.{empty_cell, rows_at, rows_in, cell_in}
+use Rattle.ft_types.specs.Views.{empty_cell, rows_at, row_count, cell_in}
 use Rattle.ft_check.specs.Blocks.{blocked, from_rows}
 
 -- ---- each element, by its place
@@ -261,7 +261,7 @@ pub block_long : (song : Module) (p r h : ℕ) (pattern : Pattern) → IsValid s
 block_long song p r h pattern v found below =
     let valid = all_found (IsValidPattern song.channels) song.patterns p pattern v.patterns found in
     rows_within song.channels r h pattern.rows (length pattern.cells)
-    (subst (λ (it : Option Pattern). r + h ≤ rows_in it) found below) valid.whole
+    (subst (λ (it : Option Pattern). r + h ≤ row_count it) found below) valid.whole
 
 -- ---- copied cells
 

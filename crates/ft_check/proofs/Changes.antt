@@ -27,7 +27,7 @@ back at [] x found = absurd cc
 back zero (y ∷ xs) x found = let same : y ≡ x = cc in ap (λ z. z ∷ xs) (sym same)
 back (suc at) (y ∷ xs) x found = ap (λ zs. y ∷ zs) (back at xs x found)
 
--- the place was found, and what stands there now is its change
+-- the place was found, and what is there now is its change
 pub changed_found : {X : Type 0} (place at : ℕ) (change : X → X) (xs : List X) (x y : X)
     → at ≡ place → slice_get xs at ≡ Some x → y ≡ change x → set xs at y ≡ changed_at place change xs
 changed_found place at change xs x y index found new =

@@ -20,8 +20,8 @@ cells_in (Some pattern) = pattern.cells
 abbrev pub cells_at : Module → ℕ → List Cell
 cells_at song p = cells_in (slice_get song.patterns p)
 
--- the cell of whole rows that stands as far from their first row and this channel as a cell from
--- row r and channel c2
+-- the cell of whole rows that is as far from their first row and this channel as a cell from row r
+-- and channel c2
 abbrev pub from_rows : ℕ → List Cell → ℕ → ℕ → ℕ → ℕ → ℕ → Cell → Cell
 from_rows channels rows c r c2 row channel cell =
     get_or rows ((row - r) * channels + (c + (channel - c2))) empty_cell

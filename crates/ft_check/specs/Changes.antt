@@ -32,7 +32,7 @@ abbrev pub sample_in_changed : ℕ → (Sample → Sample) → Instrument → In
 sample_in_changed s change instrument =
     record instrument { samples = changed_at s change instrument.samples }
 
--- frames of 8 bits, or of 16, with so many bits
+-- frames of 8 bits, or of 16, with that many bits
 abbrev pub with_width : ℕ → Bool → List ℤ → List ℤ
 with_width b wide frames =
     if b == 16 then (if wide then frames else map (λ frame. pos 256 *ℤ frame) frames)

@@ -4,7 +4,7 @@ ghost use Rattle.std.specs.Prelude.{◌≡◌, ◌≤◌, ◌<◌, ◌+◌, ◌-
 ghost use Rattle.ft_types.specs.Valid.{IsValid, IsValidPattern};
 ghost use Rattle.ft_types.specs.Views.{empty_cell, rows_at};
 ghost use Rattle.ft_edits.specs.Lists.{each_from};
-ghost use Rattle.ft_edits.specs.Patterns.{with_pattern, with_block, in_block, is_note, moved, moved_note, copied};
+ghost use Rattle.ft_edits.specs.Patterns.{with_pattern, with_block, in_block, is_note_number, moved_cell, moved_note, copied};
 ghost use Rattle.ft_edits.specs.Allowed.{HasBlock};
 ghost use Rattle.ft_edits.specs.Changes.{cell_changed};
 ghost use Rattle.ft_check.specs.Blocks.{blocked, cells_at, from_rows};
@@ -27,12 +27,12 @@ pub(crate) struct Block {
 
 /// Whether a number is a note of 1 to 96.
 fn is_note(note: i16) -> bool
-    ensures { result ≡ is_note note }
+    ensures { result ≡ is_note_number note }
 {
     0 < note && note <= 96
 }
 
-/// A note moved by so many semitones, where it stays one.
+/// A note moved by that many semitones, where it stays one.
 fn moved_note(d: i8, note: u8) -> u8
     ensures { result ≡ moved_note d note }
 {
@@ -95,7 +95,7 @@ pub(crate) fn change_block(m: &mut Module, p: u8, block: Block, e: &Edit)
     }
 }
 
-/// So many cells from a place on.
+/// That many cells from a place on.
 fn part_of(alloc: Global, cells: &[Cell], from: usize, count: usize) -> Result<Vec<Cell>, NoMemory>
     requires { from + count ≤ length cells.now }
     ensures { IfOk result (λ part. part.items ≡ take count (drop from cells.now)) }
@@ -104,7 +104,7 @@ fn part_of(alloc: Global, cells: &[Cell], from: usize, count: usize) -> Result<V
     Ok(Vec::from_slice(alloc, part)?)
 }
 
-/// The cells of so many rows of a pattern.
+/// The cells of that many rows of a pattern.
 fn rows_of(alloc: Global, m: &Module, p: u8, r: u16, h: u16) -> Result<Vec<Cell>, NoMemory>
     requires valid { IsValid m.now }
     requires there { r + h ≤ rows_at m.now p }

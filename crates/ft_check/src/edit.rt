@@ -13,7 +13,8 @@ use crate::pattern::change_patterns;
 use crate::sample::{change_all_frames, change_samples};
 use crate::song::change_song;
 use ft_edits::{
-    Group, allowed_is_there, fault_of_module, group_of, holds_fields, valid_stays_valid,
+    Group, allowed_edits_name_what_is_there, fault_of_module, group_of, holds_fields,
+    valid_stays_valid,
 };
 use ft_types::{Edit, EditFault, Module, NoMemory};
 use std::alloc::Global;
@@ -60,7 +61,7 @@ pub fn apply_edit(alloc: Global, m: &mut Module, e: &Edit) -> Result<(), ApplyFa
     match fault_of_module(m, e) {
         Some(fault) => Err(ApplyFault::Edit(fault)),
         None => {
-            allowed_is_there();
+            allowed_edits_name_what_is_there();
             holds_fields(e);
             valid_stays_valid();
             match do_edit(alloc, m, e) {

@@ -132,7 +132,7 @@ fn narrow_all(frames: &mut [i16])
     }
 }
 
-/// Gives frames of 8 bits, or of 16, so many bits.
+/// Gives frames of 8 bits, or of 16, that many bits.
 pub(crate) fn set_width(frames: &mut Vec<i16>, wide: bool, b: u8)
     requires { wide ≡ false → All (FitsSigned w8) frames.old.items }
     ensures { frames.new.items ≡ with_width b wide frames.old.items }

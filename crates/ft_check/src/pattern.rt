@@ -26,7 +26,7 @@ fn put(cells: &mut Cells, at: usize, cell: Cell)
     }
 }
 
-/// Cuts cells, or fills them with empty ones, to so many.
+/// Cuts cells, or fills them with empty ones, to that many.
 #[tactic(auto, using(crate::proofs::Parts::filled))]
 fn fill(cells: &mut Vec<Cell>, count: usize) -> Result<(), NoMemory>
     ensures ok { OnOk result (cells.new.items
@@ -37,7 +37,7 @@ fn fill(cells: &mut Vec<Cell>, count: usize) -> Result<(), NoMemory>
     Ok(())
 }
 
-/// Gives a pattern so many rows: it is cut, or filled with empty ones.
+/// Gives a pattern that many rows: it is cut, or filled with empty ones.
 fn resize(alloc: Global, pattern: &mut Pattern, channels: u8, n: u16) -> Result<(), NoMemory>
     ensures ok { OnOk result (pattern.new ≡ with_rows channels n pattern.old) }
     ensures err { OnErr result (pattern.new ≡ pattern.old) }
@@ -88,7 +88,7 @@ fn remove_row(cells: &mut [Cell], at: usize, channels: usize)
     row_last(&mut cells[at..], channels);
 }
 
-/// Changes a pattern in a song of so many channels.
+/// Changes a pattern in a song of that many channels.
 fn change(alloc: Global, pattern: &mut Pattern, channels: u8, e: &Edit) -> Result<(), NoMemory>
     requires valid { IsValidPattern channels pattern.old }
     requires there { SuitsRows pattern.old.rows e.now }

@@ -7,7 +7,7 @@ ghost use Rattle.ft_types.specs.Valid.{IsValid, IsValidInstrument, IsValidSample
 ghost use Rattle.ft_edits.specs.Allowed.{Allows};
 ghost use Rattle.ft_edits.specs.Changes.{sample_changed};
 ghost use Rattle.ft_edits.specs.Edited.{edited};
-ghost use Rattle.ft_edits.specs.Faults.{frame_count, frames_at};
+ghost use Rattle.ft_edits.specs.Faults.{sample_length, frames_at};
 ghost use Rattle.ft_edits.specs.Groups.{group_of};
 ghost use Rattle.ft_edits.specs.Samples.{with_sample, with_loop, with_frames, refitted};
 ghost use Rattle.ft_check.specs.Changes.{sample_in_changed, frames_changed, SuitsFrames};
@@ -122,7 +122,7 @@ fn change(alloc: Global, sample: &mut Sample, e: &Edit) -> Result<(), NoMemory>
 /// Changes a sample of an instrument.
 fn change_in(alloc: Global, instrument: &mut Instrument, s: u8, e: &Edit) -> Result<(), NoMemory>
     requires valid { IsValidInstrument instrument.old }
-    requires there { SuitsFrames (frame_count (slice_get instrument.old.samples s)) e.now }
+    requires there { SuitsFrames (sample_length (slice_get instrument.old.samples s)) e.now }
     ensures ok { OnOk result
         (instrument.new ≡ sample_in_changed s (sample_changed e.now) instrument.old) }
     ensures err { OnErr result (instrument.new ≡ instrument.old) }

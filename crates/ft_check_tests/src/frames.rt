@@ -20,7 +20,7 @@ fn scale(n: i16, d: u16) -> Edit
     }
 }
 
-/// Gives the frames so many bits.
+/// Gives the frames that many bits.
 fn bits(b: u8) -> Edit
     ensures { IsGivable result }
 {

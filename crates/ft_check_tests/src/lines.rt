@@ -8,7 +8,7 @@ use std::alloc::Global;
 /// What became of a line.
 #[derive(Clone, Copy, Debug, PartialEq, Eq)]
 pub enum Answer {
-    /// It is no edit, or the song isn't valid, or memory was wanting.
+    /// It is no edit, or the song isn't valid, or memory ran out.
     None,
     /// The edit is refused.
     Refused(EditFault),

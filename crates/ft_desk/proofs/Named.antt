@@ -11,8 +11,8 @@ use Rattle.ft_segments.specs.Packing.{id_at}
 use Rattle.ft_segments.specs.Walk.{PatternIds, IndexIds, SampleIds, InstrumentIds, SongIds, Placed, ids_of, walk, uses, is_it, pattern_uses, index_uses, sample_uses, instrument_uses, sample_walk, index_walk, instrument_walk, each_below, bodies_in, bodies_of_index, instruments_in, samples_in}
 use Rattle.ft_shared.specs.declared.law.PlacedVersion.{PlacedVersion}
 use Rattle.ft_shared.specs.declared.law.Account.{Account}
-use Rattle.ft_shared.specs.History.{placed_at, place_of}
-use Rattle.ft_desk.specs.Parts.{Part, SongRoot, PatternRoot, PatternBody, InstrumentRoot, SampleRoot, SampleIndex, SampleBody, PlacedPart, BornPart, one_part, numbered, pattern_parts, index_parts, sample_parts, instrument_parts, song_parts, part_of, entry_of, born_in, born_at}
+use Rattle.ft_shared.specs.History.{placed_at, root_and_pool}
+use Rattle.ft_desk.specs.Parts.{Part, SongRoot, PatternRoot, PatternBody, InstrumentRoot, SampleRoot, SampleIndex, SampleBody, PlacedPart, BornPart, one_part, numbered, pattern_parts, index_parts, sample_parts, instrument_parts, song_parts, part_of, entry_of, born_in, part_born_at}
 use Rattle.ft_desk.specs.Laws.{SegmentsAreParts, PartsDiffer, EntriesDiffer}
 use Rattle.ft_desk.proofs.Numbered.{Each, each_of_both, each_numbered, found_is, times, times_of_both, times_numbered, named_is_found, found_is_named}
 
@@ -190,7 +190,7 @@ numbered_so (first ∷ history) version placed is = at (eqb first.version versio
     at true e f rest = subst (λ (p : PlacedVersion). p.version ≡ version) (same_Some first placed f) (eqb-true first.version version e)
     at false e f rest = rest f
 
-some_map : (version : ℕ) (o : Option Part) (entry : BornPart) → born_at version o ≡ Some entry
+some_map : (version : ℕ) (o : Option Part) (entry : BornPart) → part_born_at version o ≡ Some entry
     → (version ≡ entry.birth) × (o ≡ Some entry.part)
 some_map version None entry is = absurd (none-some entry is)
 some_map version (Some part) entry is =
@@ -200,7 +200,7 @@ some_map version (Some part) entry is =
 -- an entry is of a version of the history, of its birth
 born : (account : Account) (segment : ℕ) (entry : BornPart) → entry_of account segment ≡ Some entry
     → (placed : PlacedVersion) × (placed_at account.history entry.birth ≡ Some placed)
-    × (part_of (ids_of (place_of placed)) segment ≡ Some entry.part)
+    × (part_of (ids_of (root_and_pool placed)) segment ≡ Some entry.part)
 born account segment entry is =
     let version = slice_index account.filled segment in
     at (placed_at account.history version) (λ placed e. numbered_so account.history version placed e) refl is
@@ -210,10 +210,10 @@ born account segment entry is =
         → placed.version ≡ slice_index account.filled segment)
         → placed_at account.history (slice_index account.filled segment) ≡ o → born_in o segment ≡ Some entry
         → (placed : PlacedVersion) × (placed_at account.history entry.birth ≡ Some placed)
-        × (part_of (ids_of (place_of placed)) segment ≡ Some entry.part)
+        × (part_of (ids_of (root_and_pool placed)) segment ≡ Some entry.part)
     at None number e f = absurd (none-some entry f)
     at (Some placed) number e f =
-        let g = some_map placed.version (part_of (ids_of (place_of placed)) segment) entry f in
+        let g = some_map placed.version (part_of (ids_of (root_and_pool placed)) segment) entry f in
         (placed, ap (placed_at account.history) (sym g.0 ∙ number placed e) ∙ e, g.1)
 
 pub entries_differ : EntriesDiffer
@@ -221,6 +221,6 @@ entries_differ account one other entry is at =
     let a = born account one entry is in
     let b = born account other entry at in
     let same : a.0 ≡ b.0 = same_Some a.0 b.0 (sym a.1 ∙ b.1) in
-    let there : part_of (ids_of (place_of a.0)) other ≡ Some entry.part
-    = ap (λ (p : PlacedVersion). part_of (ids_of (place_of p)) other) same ∙ b.2 in
-    parts_differ (place_of a.0) one other entry.part a.2 there
+    let there : part_of (ids_of (root_and_pool a.0)) other ≡ Some entry.part
+    = ap (λ (p : PlacedVersion). part_of (ids_of (root_and_pool p)) other) same ∙ b.2 in
+    parts_differ (root_and_pool a.0) one other entry.part a.2 there

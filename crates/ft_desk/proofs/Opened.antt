@@ -19,7 +19,7 @@ use Rattle.ft_segments.specs.Walk.{SongIds, IsOf, each_below, uses, walk}
 use Rattle.ft_shared.specs.declared.law.Account.{Account}
 use Rattle.ft_shared.specs.declared.law.PlacedVersion.{PlacedVersion}
 use Rattle.ft_shared.specs.Account.{pool_of}
-use Rattle.ft_shared.specs.History.{placed_at, place_of, HasVersion}
+use Rattle.ft_shared.specs.History.{placed_at, root_and_pool, HasVersion}
 use Rattle.ft_shared.specs.Pass.{RegisterId, WriterState, opening_writer}
 use Rattle.ft_shared.specs.Segments.{IsAsPlaced}
 use Rattle.ft_image.specs.Laws.{ShownStays, ShownHasBlocks}
@@ -27,8 +27,8 @@ use Rattle.ft_image.specs.Shown.{Shows}
 use Rattle.ft_retire.specs.declared.life.Life.{Life}
 use Rattle.ft_retire.specs.Lives.{never, lives_at, born_at as life_from}
 use Rattle.ft_retire.specs.Laws.{GivenLive}
-use Rattle.ft_desk.specs.Desk.{IsEntryOf, AreBornFor, IsShown, IsDesk, desk_of, opening_births, last_version}
-use Rattle.ft_desk.specs.Parts.{Part, BornPart, part_of, born_at, born_in, entry_of, opening_parts}
+use Rattle.ft_desk.specs.Desk.{IsEntryOf, AreBornFor, IsVersionShown, IsDesk, desk_of, opening_births, last_version}
+use Rattle.ft_desk.specs.Parts.{Part, BornPart, part_of, part_born_at, born_in, entry_of, opening_parts}
 use Rattle.ft_desk.proofs.Named.{segments_are_parts}
 
 pool-length : (segments : ℕ) (words : List ℕ) → length words ≤ 256 * segments → length (pool_of segments words) ≡ 256 * segments
@@ -127,7 +127,7 @@ filled-is v (suc n) zero lt = refl
 filled-is v (suc n) (suc k) lt = filled-is v n k (omega arith)
 
 entry-made : (version : ℕ) (o : Option Part) → IsSome o
-    → IsSomeAnd (born_at version o) (λ entry. (o ≡ Some entry.part) × (entry.birth ≡ version))
+    → IsSomeAnd (part_born_at version o) (λ entry. (o ≡ Some entry.part) × (entry.birth ≡ version))
 entry-made version None some = absurd (let e : is_some (let n : Option Part = None in n) ≡ true = some in cc)
 entry-made version (Some part) some = (refl, refl)
 
@@ -162,20 +162,20 @@ opened_desk stays blocks given register song version words journal shows size fi
         ]),
       );
       shown = λ number placed is.
-          subst (λ (p : PlacedVersion). IsShown desk number p) (first_is version number pool placed is) (record {
+          subst (λ (p : PlacedVersion). IsVersionShown desk number p) (first_is version number pool placed is) (record {
             among = λ segment of. let lt = there.1.sound.within segment of in omega arith;
             shows = subst (λ (m : Module). Shows (record { root = 0; pool = pool }) m) (same number) there.1;
             channels = subst (λ (m : Module). m.channels ≡ register.sizes.channels) (same number) channels;
           });
       written = subst (λ (o : Option PlacedVersion). IfSome o
-          (λ placed. (segment : ℕ) → IsOf (place_of placed) segment → IsAsPlaced account placed segment)) (sym here)
+          (λ placed. (segment : ℕ) → IsOf (root_and_pool placed) segment → IsAsPlaced account placed segment)) (sym here)
           (λ segment of. ((λ place l. refl), filled-at version segments segment));
       entries = λ number placed segment is of kept.
           let first : first_of version pool ≡ placed = first_is version number pool placed is in
-          subst (λ (p : PlacedVersion). IsOf (place_of p) segment → IsEntryOf account p segment) first
+          subst (λ (p : PlacedVersion). IsOf (root_and_pool p) segment → IsEntryOf account p segment) first
           (λ of. let lt = within segment of in
           let filled : slice_index account.filled segment ≡ version = filled-is version segments segment (omega arith) in
-          let entry : born_at version (part_of (walk pool 0) segment) ≡ entry_of account segment
+          let entry : part_born_at version (part_of (walk pool 0) segment) ≡ entry_of account segment
           = sym (ap (λ (v : ℕ). born_in (placed_at account.history v) segment) filled
           ∙ ap (λ (o : Option PlacedVersion). born_in o segment) here) in
           subst (λ (z : Option BornPart × ℕ). IsSomeAnd z.0
@@ -229,12 +229,12 @@ pub opened_parts : (register : RegisterId) (version : ℕ) (pool : List ℕ) (id
 opened_parts register version pool ids writer laid is =
     let n = register.sizes.segments in
     let account : Account = (opening_writer register version 0 pool).account in
-    let f : ℕ → Option BornPart = λ segment. born_at version (part_of ids segment) in
+    let f : ℕ → Option BornPart = λ segment. part_born_at version (part_of ids segment) in
     let one : (k : ℕ) → k < n → entry_of account k ≡ f k
     = λ k lt.
     ap (λ (v : ℕ). born_in (placed_at account.history v) k) (all_same n version k lt)
     ∙ (ap (λ (b : Bool). born_in (cond b (Some (first_of version pool)) None) k) (eq-eqb version version refl)
-    ∙ ap (λ (i : SongIds). born_at version (part_of i k)) laid) in
+    ∙ ap (λ (i : SongIds). part_born_at version (part_of i k)) laid) in
     ap (λ (w : WriterState). each_below w.register.sizes.segments (entry_of w.account)) is
     ∙ fill_by_all f (each_below n (entry_of account)) n None (length-map-range_with_len (entry_of account) 0 n)
     (λ k lt. get_or-map-range_with_len (entry_of account) 0 n k k None lt (omega arith) ∙ one k lt)

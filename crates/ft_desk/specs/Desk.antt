@@ -9,7 +9,7 @@ use Rattle.ft_segments.specs.Walk.{IsOf, each_below, ids_of, walk}
 use Rattle.ft_shared.specs.declared.law.Account.{Account}
 use Rattle.ft_shared.specs.declared.law.PlacedVersion.{PlacedVersion}
 use Rattle.ft_shared.specs.Account.{pool_of}
-use Rattle.ft_shared.specs.History.{placed_at, place_of, HasVersion}
+use Rattle.ft_shared.specs.History.{placed_at, root_and_pool, HasVersion}
 use Rattle.ft_shared.specs.Pass.{RegisterId, WriterState, opening_writer}
 use Rattle.ft_shared.specs.Segments.{IsAsPlaced, IsUnwritten}
 use Rattle.ft_retire.specs.Births.{BirthsState}
@@ -40,7 +40,7 @@ desk_of writer journal births room opening first = record {
   first = first;
 }
 
--- the births of a pool that was just opened: so many segments live from its version on
+-- the births of a pool that was just opened: that many segments live from its version on
 abbrev pub opening_births : ℕ → ℕ → ℕ → BirthsState
 opening_births segments live version = record {
   lives = replicate live (life_from version) ++ replicate (segments - live) never;
@@ -49,14 +49,14 @@ opening_births segments live version = record {
 }
 
 -- the list of parts: what each segment of the pool was last filled for
-abbrev pub parts_of : DeskState → List (Option BornPart)
-parts_of desk = each_below desk.writer.register.sizes.segments (entry_of desk.writer.account)
+abbrev pub born_parts : DeskState → List (Option BornPart)
+born_parts desk = each_below desk.writer.register.sizes.segments (entry_of desk.writer.account)
 
 -- The segment's entry is the part that it is of the version, and the version for which it was last
 -- filled
 abbrev pub IsEntryOf : Account → PlacedVersion → ℕ → Type 0
 IsEntryOf account placed segment = IsSomeAnd (entry_of account segment) (λ entry.
-    (part_of (ids_of (place_of placed)) segment ≡ Some entry.part)
+    (part_of (ids_of (root_and_pool placed)) segment ≡ Some entry.part)
     × (entry.birth ≡ slice_index account.filled segment))
 
 -- Births fit a version: the segments of the pool that live at it are its segments
@@ -64,7 +64,7 @@ abbrev pub AreBornFor : DeskState → ℕ → PlacedVersion → Type 0
 AreBornFor desk version placed =
     (segment : ℕ) → segment < desk.writer.register.sizes.segments
     → lives_at (slice_index_or desk.births.lives segment never) version ≡ true
-    ↔ IsOf (place_of placed) segment
+    ↔ IsOf (root_and_pool placed) segment
 
 -- What commits need was reserved: a life for each segment of the pool, and room for a list of all
 pub record IsReserved (desk : DeskState) : Type 0 where
@@ -78,15 +78,15 @@ last_version version [] = version
 last_version version (entry ∷ entries) = last_version entry.version entries
 
 -- the song at a version
-abbrev pub song_at : DeskState → ℕ → Module
-song_at desk version = module_at desk.opening desk.journal.entries version
+abbrev pub desk_song : DeskState → ℕ → Module
+desk_song desk version = module_at desk.opening desk.journal.entries version
 
 -- The version lies in the pool and shows the desk's song at its number, which has the register's
 -- channels
-pub record IsShown (desk : DeskState) (version : ℕ) (placed : PlacedVersion) : Type 0 where
-  pub among : IsAmong desk.writer.register.sizes.segments (place_of placed)
-  pub shows : Shows (place_of placed) (song_at desk version)
-  pub channels : (song_at desk version).channels ≡ desk.writer.register.sizes.channels
+pub record IsVersionShown (desk : DeskState) (version : ℕ) (placed : PlacedVersion) : Type 0 where
+  pub among : IsAmong desk.writer.register.sizes.segments (root_and_pool placed)
+  pub shows : Shows (root_and_pool placed) (desk_song desk version)
+  pub channels : (desk_song desk version).channels ≡ desk.writer.register.sizes.channels
 
 pub record IsDesk (desk : DeskState) : Type 0 where
   -- each batch of the journal makes a song of the one before, and the versions count on
@@ -98,14 +98,15 @@ pub record IsDesk (desk : DeskState) : Type 0 where
       ↔ IsCommitted desk.first desk.journal.entries version
   -- and each of them shows the song at it
   pub shown : (version : ℕ) (placed : PlacedVersion)
-      → placed_at desk.writer.account.history version ≡ Some placed → IsShown desk version placed
+      → placed_at desk.writer.account.history version ≡ Some placed
+      → IsVersionShown desk version placed
   -- the current version is in the words last written
   pub written : IsUnwritten desk.writer.account desk.writer.account.version
   -- a segment that was not written since a version was placed has the entry of that version: so has
   -- each segment that a version or a pin holds
   pub entries : (version : ℕ) (placed : PlacedVersion) (segment : ℕ)
       → placed_at desk.writer.account.history version ≡ Some placed
-      → IsOf (place_of placed) segment → IsAsPlaced desk.writer.account placed segment
+      → IsOf (root_and_pool placed) segment → IsAsPlaced desk.writer.account placed segment
       → IsEntryOf desk.writer.account placed segment
   -- births fit each version that was not written since
   pub born : (version : ℕ) (placed : PlacedVersion)

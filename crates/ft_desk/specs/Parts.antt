@@ -3,7 +3,7 @@ use Rattle.std.specs.Prelude.{ℕ, ◌+◌, ◌*◌, ◌==◌, if◌then◌else�
 use Rattle.ft_segments.specs.Walk.{PatternIds, IndexIds, SampleIds, InstrumentIds, SongIds, each_below, ids_of}
 use Rattle.ft_shared.specs.declared.law.PlacedVersion.{PlacedVersion}
 use Rattle.ft_shared.specs.declared.law.Account.{Account}
-use Rattle.ft_shared.specs.History.{placed_at, place_of}
+use Rattle.ft_shared.specs.History.{placed_at, root_and_pool}
 
 -- a part of a song, by its kind and its numbers. Instruments count from 1, all else from 0
 pub data Part : Type 0 where
@@ -71,13 +71,13 @@ pub record BornPart : Type 0 where
   pub part : Part
   pub birth : ℕ
 
-abbrev pub born_at : ℕ → Option Part → Option BornPart
-born_at version part = option_map (λ part. record { part = part; birth = version }) part
+abbrev pub part_born_at : ℕ → Option Part → Option BornPart
+part_born_at version part = option_map (λ part. record { part = part; birth = version }) part
 
 abbrev pub born_in : Option PlacedVersion → ℕ → Option BornPart
 born_in None segment = None
 born_in (Some placed) segment =
-    born_at placed.version (part_of (ids_of (place_of placed)) segment)
+    part_born_at placed.version (part_of (ids_of (root_and_pool placed)) segment)
 
 -- What a segment was last filled for: the part that it is of the version for which it was filled,
 -- and that version. There is none where it is of no such version
@@ -88,4 +88,4 @@ entry_of account segment =
 -- the list of a desk that was just opened on a song that is laid by these ids
 abbrev pub opening_parts : ℕ → ℕ → SongIds → List (Option BornPart)
 opening_parts segments version ids =
-    each_below segments (λ segment. born_at version (part_of ids segment))
+    each_below segments (λ segment. part_born_at version (part_of ids segment))

@@ -5,13 +5,13 @@ ghost use Rattle.std.specs.Vec.{vec_capacity};
 ghost use Rattle.std.specs.Result.{IsErrOf};
 ghost use Rattle.ft_types.specs.Valid.{IsValid};
 ghost use Rattle.ft_types.specs.Blocks.{blocks_of};
-ghost use Rattle.ft_shared.specs.Account.{after_note, after_settle, after_resume, last_settled};
+ghost use Rattle.ft_shared.specs.Account.{after_note_made, after_settle, after_resume, last_settled};
 ghost use Rattle.ft_shared.specs.History.{Agrees, AreSound};
 ghost use Rattle.ft_shared.specs.Pass.{fresh_passes, hold_at, resumed_pass};
 ghost use Rattle.ft_shared.specs.Segments.{KeepsHeld};
 ghost use Rattle.ft_shared.specs.declared.shared.OpenFault.TheVariants.{PoolSmall, NoMemory};
 ghost use Rattle.ft_image.specs.Laid.{song_laid};
-ghost use Rattle.ft_desk.specs.Desk.{IsDesk, IsOpened, desk_of, parts_of};
+ghost use Rattle.ft_desk.specs.Desk.{IsDesk, IsOpened, desk_of, born_parts};
 ghost use Rattle.ft_desk.specs.Parts.{opening_parts, part_of};
 
 use crate::reserving::reserve;
@@ -63,7 +63,7 @@ impl Desk {
     /// them: births that fit the version, marks, and room for a list of all segments.
     ///
     /// `PoolSmall` comes exactly where the blocks of the song are more than the segments, which it
-    /// tells as what is needed. So `NoMemory` comes only where the song fits. After a refusal
+    /// names as what is needed. So `NoMemory` comes only where the song fits. After a refusal
     /// nothing was made.
     pub fn open(
         alloc: Global,
@@ -87,7 +87,7 @@ impl Desk {
         ensures passes { IfOk result (λ made. made.2 ≡ fresh_passes made.0 readers) }
         ensures desk { IfOk result (λ made. IsOpened made.0 m.now version made.1) }
         ensures parts { IfOk result (λ made.
-            parts_of made.1 ≡ opening_parts segments version (song_laid m.now)) }
+            born_parts made.1 ≡ opening_parts segments version (song_laid m.now)) }
         ensures others { IfOk result (λ made. (segment : ℕ) → blocks_of m.now ≤ segment
             → part_of (song_laid m.now) segment ≡ None) }
     {
@@ -172,7 +172,7 @@ impl Desk {
     pub fn note(&mut self, shared: &Shared) -> Note
         requires { self.old.writer.register ≡ shared.now }
         ensures noted { self.new ≡ record self.old {
-          writer = record self.old.writer { account = after_note self.old.writer.account };
+          writer = record self.old.writer { account = after_note_made self.old.writer.account };
         } }
         ensures note { result ≡ record {
           register = shared.now;

@@ -1,4 +1,4 @@
-//! Tests of the desk: which pools are too small for a song, what a desk tells that was just opened,
+//! Tests of the desk: which pools are too small for a song, what a desk says that was just opened,
 //! and passes that go to it and come back.
 #![tactic(auto)]
 

@@ -7,7 +7,7 @@ use ft_text::{LedgerFault, print_ledger, read_ledger};
 use std::alloc::Global;
 use std::io::Write;
 
-/// Writes a ledger as it is told in form 2, or its first line that can't stand there.
+/// Writes a ledger as it is in form 2, or its first line that can't be there.
 pub fn put_ledger<W: Write>(alloc: Global, out: &mut W, ledger: &[u8]) -> Result<()> {
     match read_ledger(alloc, ledger) {
         Ok(r) => {

@@ -5,8 +5,8 @@
 //! itself, on the song that those before it leave, whatever became of them, and prints how it went.
 //! Last it writes the canonical bytes of the song. Lines are what the LFs of the script separate.
 //!
-//! `ft_edit_answers LEDGER` prints a ledger as it is told in form 2, or its first line that can't
-//! stand there.
+//! `ft_edit_answers LEDGER` prints a ledger as it is in form 2, or its first line that can't be
+//! there.
 #![tactic(auto)]
 
 ghost use Rattle.std.specs.Prelude.{◌≡◌};

@@ -6,18 +6,18 @@ use Rattle.ft_types.specs.declared.edit.Edit.TheVariants as edits
 use Rattle.ft_types.specs.declared.edit_fault.EditFault.{EditFault}
 use Rattle.ft_types.specs.declared.edit_fault.EditFault.TheVariants.{NoPattern, NoRow, NoChannel, Range, Cut}
 use Rattle.ft_types.specs.Views.{rows_at}
-use Rattle.ft_edits.specs.Faults.{unless, first_of, block_of, sampled, framed, missing_pattern, missing_row, missing_channel, missing_sample, samples_at, frames_at, out_of_range}
+use Rattle.ft_edits.specs.Faults.{unless, first_cause, block_of, sampled, framed, missing_pattern, missing_row, missing_channel, missing_sample, samples_at, frames_at, out_of_range}
 use Rattle.ft_edits.specs.Allowed.{HasBlock, HasFrames}
 use Rattle.ft_edits.specs.Laws.{AllowedIsThere}
 use Rattle.ft_edits.proofs.Causes.{passed, passed_all, both, low, most, ranged}
 
-row_there : (song : Module) (p r : ℕ) → first_of (missing_pattern song p ∷ missing_row song p r ∷ []) ≡ None → r < rows_at song p
+row_there : (song : Module) (p r : ℕ) → first_cause (missing_pattern song p ∷ missing_row song p r ∷ []) ≡ None → r < rows_at song p
 row_there song p r none =
     let s = passed (nat_lt p (length song.patterns)) (NoPattern p) (missing_row song p r ∷ []) none in
     let t = passed (nat_lt r (rows_at song p)) (NoRow r (rows_at song p)) [] s.1 in
     low r (rows_at song p) t.0
 
-block_there : (song : Module) (p r c h w : ℕ) → first_of (block_of song p r c h w) ≡ None → HasBlock song p r c h w
+block_there : (song : Module) (p r c h w : ℕ) → first_cause (block_of song p r c h w) ≡ None → HasBlock song p r c h w
 block_there song p r c h w none =
     let row : Option EditFault = missing_row song p (r + h - 1) in
     let channel : Option EditFault = missing_channel song (c + w - 1) in
@@ -33,22 +33,22 @@ block_there song p r c h w none =
     let end = low (c + w - 1) song.channels v.0 in
     (low p (length song.patterns) s.0, omega (arith, rows, last), omega (arith, channels, end))
 
-sample_rest : (song : Module) (i s : ℕ) (causes : List (Option EditFault)) → first_of (sampled song i s causes) ≡ None
-    → first_of causes ≡ None
+sample_rest : (song : Module) (i s : ℕ) (causes : List (Option EditFault)) → first_cause (sampled song i s causes) ≡ None
+    → first_cause causes ≡ None
 sample_rest song i s causes none =
     let a = passed (nat_lt 0 i && nat_le i (length song.instruments)) _ (missing_sample song i s ∷ causes) none in
     let b = passed (nat_lt s (samples_at song i)) _ causes a.1 in
     b.1
 
 some_instrument : (song : Module) (i s : ℕ) (causes : List (Option EditFault))
-    → first_of (sampled song i s causes) ≡ None → 0 < i
+    → first_cause (sampled song i s causes) ≡ None → 0 < i
 some_instrument song i s causes none =
     let a = passed (nat_lt 0 i && nat_le i (length song.instruments)) _ (missing_sample song i s ∷ causes) none in
     low 0 i (both (nat_lt 0 i) (nat_le i (length song.instruments)) a.0).0
 
 frames_there : (song : Module) (i s from to : ℕ) (causes : List (Option EditFault))
-    → first_of (framed song i s from to causes) ≡ None
-    → HasFrames song i s from to × (first_of causes ≡ None)
+    → first_cause (framed song i s from to causes) ≡ None
+    → HasFrames song i s from to × (first_cause causes ≡ None)
 frames_there song i s from to causes none =
     let rest =
     sample_rest song i s

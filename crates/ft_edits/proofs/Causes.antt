@@ -3,16 +3,16 @@ use Rattle.std.proofs.Common.{◌≡◌, ℕ, ◌<◌, ◌≤◌, Bool, true, fa
 use Rattle.std.specs.Prelude.{◌&&◌, nat_lt, nat_le}
 use Rattle.std.proofs.lemmas.Bool.Decides.{nat_tests}
 use Rattle.ft_types.specs.declared.edit_fault.EditFault.{EditFault}
-use Rattle.ft_edits.specs.Faults.{unless, first_of, out_of_range}
+use Rattle.ft_edits.specs.Faults.{unless, first_cause, out_of_range}
 
 -- the first cause didn't come, and nor did the others
 pub passed : (test : Bool) (fault : EditFault) (causes : List (Option EditFault))
-    → first_of (unless test fault ∷ causes) ≡ None → (test ≡ true) × (first_of causes ≡ None)
+    → first_cause (unless test fault ∷ causes) ≡ None → (test ≡ true) × (first_cause causes ≡ None)
 passed true fault causes none = (refl, none)
 passed false fault causes none = absurd cc
 
 pub passed_all : (first more : List (Option EditFault))
-    → first_of (first ++ more) ≡ None → (first_of first ≡ None) × (first_of more ≡ None)
+    → first_cause (first ++ more) ≡ None → (first_cause first ≡ None) × (first_cause more ≡ None)
 passed_all [] more none = (refl, none)
 passed_all (None ∷ causes) more none = passed_all causes more none
 passed_all (Some fault ∷ causes) more none = absurd cc
@@ -28,7 +28,7 @@ pub most : (a b : ℕ) → nat_le a b ≡ true → a ≤ b
 most a b holds = grind (arith, nat_tests)
 
 pub ranged : (field from to found : ℕ) (causes : List (Option EditFault))
-    → first_of (out_of_range field from to found ∷ causes) ≡ None → (from ≤ found) × (found ≤ to) × (first_of causes ≡ None)
+    → first_cause (out_of_range field from to found ∷ causes) ≡ None → (from ≤ found) × (found ≤ to) × (first_cause causes ≡ None)
 ranged field from to found causes none =
     let p = passed _ _ causes none in
     let b = both _ _ p.0 in

@@ -9,7 +9,7 @@ use Rattle.ft_types.specs.declared.pattern.Cell.{Cell}
 use Rattle.ft_types.specs.Valid.{IsValid, IsValidPattern, IsValidCell}
 use Rattle.ft_types.specs.Views.{empty_cell, cell_in}
 use Rattle.ft_edits.specs.Lists.{each_from}
-use Rattle.ft_edits.specs.Patterns.{empty_rows, with_cell, with_rows, with_new_row, without_row, empty_pattern, in_block, with_block, is_note, moved, copied}
+use Rattle.ft_edits.specs.Patterns.{empty_rows, with_cell, with_rows, with_new_row, without_row, empty_pattern, in_block, with_block, is_note_number, moved_cell, copied}
 use Rattle.ft_edits.proofs.ListFacts.{length-each, all-each}
 use Rattle.ft_edits.proofs.Causes.{both, most}
 
@@ -130,18 +130,18 @@ block_kept channels r c h w change pattern keeps v =
     cell
     (keeps (k / channels) (k % channels) cell valid) valid))
 
-low_note : (z : ℤ) → is_note z ≡ true → nat_abs z ≤ 97
+low_note : (z : ℤ) → is_note_number z ≡ true → nat_abs z ≤ 97
 low_note (pos n) holds = let m : n ≤ 96 = most n 96 (both (nat_lt 0 n) (nat_le n 96) holds).1 in omega (arith, m)
 low_note (negsuc n) holds = absurd cc
 
-moved_low : (d : ℤ) (note : ℕ) (b : Bool) → (is_note (pos note) && is_note (pos note +ℤ d)) ≡ b → note ≤ 97
+moved_low : (d : ℤ) (note : ℕ) (b : Bool) → (is_note_number (pos note) && is_note_number (pos note +ℤ d)) ≡ b → note ≤ 97
     → cond b (nat_abs (pos note +ℤ d)) note ≤ 97
 moved_low d note true holds old = low_note (pos note +ℤ d) (both _ _ holds).1
 moved_low d note false holds old = old
 
-pub moved_kept : (d : ℤ) (cell : Cell) → IsValidCell cell → IsValidCell (moved d cell)
+pub moved_kept : (d : ℤ) (cell : Cell) → IsValidCell cell → IsValidCell (moved_cell d cell)
 moved_kept d cell v = record {
-  note = moved_low d cell.note (is_note (pos cell.note) && is_note (pos cell.note +ℤ d)) refl v.note;
+  note = moved_low d cell.note (is_note_number (pos cell.note) && is_note_number (pos cell.note +ℤ d)) refl v.note;
   instrument = v.instrument;
   volume = v.volume;
   effect = v.effect;

@@ -13,7 +13,7 @@ use Rattle.ft_types.specs.declared.edit_fault.EditFault.{EditFault}
 use Rattle.ft_types.specs.declared.edit_fault.EditFault.TheVariants.{Range}
 use Rattle.ft_types.specs.Valid.{IsBytes, IsValidInstrument, IsValidSample, IsValidLoop, width_of}
 use Rattle.ft_edits.specs.Lists.{stretch_of, with_stretch, without_last}
-use Rattle.ft_edits.specs.Faults.{is_narrow, narrow_frames, first_of}
+use Rattle.ft_edits.specs.Faults.{is_narrow, first_wide_frame, first_cause}
 use Rattle.ft_edits.specs.Instruments.{named_only}
 use Rattle.ft_edits.specs.Samples.{new_sample, with_new_sample, without_sample, with_loop, refitted, without_frames, with_new_frames, turned, floor_of, clamped, scaled_frame, scaled, widened, narrowed, with_bits}
 use Rattle.ft_edits.proofs.ListFacts.{all-stretch}
@@ -337,22 +337,22 @@ narrow_frame (pos n) holds = let h : n ≤ 127 = most n 127 holds in omega (arit
 narrow_frame (negsuc n) holds = let h : n ≤ 127 = most n 127 holds in omega (arith, ints)
 
 next_narrow : (b : Bool) (frame : ℤ) (frames : List ℤ) → is_narrow frame ≡ b
-    → cond b (narrow_frames frames) (Some (Range 16 frame)) ≡ None
-    → (FitsSigned w8 frame) × (narrow_frames frames ≡ None)
+    → cond b (first_wide_frame frames) (Some (Range 16 frame)) ≡ None
+    → (FitsSigned w8 frame) × (first_wide_frame frames ≡ None)
 next_narrow true frame frames is none = (narrow_frame frame is, none)
 next_narrow false frame frames is none = absurd cc
 
-all_narrow : (frames : List ℤ) → narrow_frames frames ≡ None → All (FitsSigned w8) frames
+all_narrow : (frames : List ℤ) → first_wide_frame frames ≡ None → All (FitsSigned w8) frames
 all_narrow [] none = All-nil (FitsSigned w8)
 all_narrow (frame ∷ frames) none =
     let h = next_narrow (is_narrow frame) frame frames refl none in
     All-cons (FitsSigned w8) frame frames h.0 (all_narrow frames h.1)
 
-only : (cause : Option EditFault) → first_of (cause ∷ []) ≡ None → cause ≡ None
+only : (cause : Option EditFault) → first_cause (cause ∷ []) ≡ None → cause ≡ None
 only None none = refl
 only (Some fault) none = absurd cc
 
 pub given_fit : (wide : Bool) (frames : List ℤ) → All (FitsSigned w16) frames
-    → first_of (cond wide None (narrow_frames frames) ∷ []) ≡ None → All (FitsSigned (width_of wide)) frames
+    → first_cause (cond wide None (first_wide_frame frames) ∷ []) ≡ None → All (FitsSigned (width_of wide)) frames
 given_fit true frames fits none = fits
-given_fit false frames fits none = all_narrow frames (only (narrow_frames frames) none)
+given_fit false frames fits none = all_narrow frames (only (first_wide_frame frames) none)

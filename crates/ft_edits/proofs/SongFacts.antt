@@ -8,7 +8,7 @@ use Rattle.ft_types.specs.declared.sample.Sample.{Sample}
 use Rattle.ft_types.specs.Valid.{IsValid, IsValidPattern, IsValidInstrument, IsValidSample}
 use Rattle.ft_types.specs.Views.{instrument_at, sample_in}
 use Rattle.ft_edits.specs.Lists.{changed_at}
-use Rattle.ft_edits.specs.Faults.{samples_at, sample_count, frames_at, frame_count}
+use Rattle.ft_edits.specs.Faults.{samples_at, sample_count, frames_at, sample_length}
 use Rattle.ft_edits.specs.Patterns.{with_pattern}
 use Rattle.ft_edits.specs.Instruments.{with_instrument}
 use Rattle.ft_edits.specs.Samples.{with_sample}
@@ -152,4 +152,4 @@ sample_kept song i s change v some there keeps =
 -- and how many frames, of the sample
 pub frames_of : (song : Module) (i s : ℕ) (sample : Sample) → sample_in (instrument_at song i) s ≡ Some sample
     → frames_at song i s ≡ length sample.frames
-frames_of song i s sample found = ap frame_count found
+frames_of song i s sample found = ap sample_length found

@@ -13,10 +13,10 @@ use Rattle.ft_types.specs.declared.edit.Edit.TheVariants as edits
 use Rattle.ft_types.specs.declared.edit_fault.EditFault.{EditFault}
 use Rattle.ft_types.specs.declared.edit_fault.EditFault.TheVariants.{NoPattern, NoRow, NoChannel}
 use Rattle.ft_types.specs.Valid.{IsValid, IsValidPattern, IsValidInstrument, width_of}
-use Rattle.ft_types.specs.Views.{rows_at, rows_in, empty_cell}
+use Rattle.ft_types.specs.Views.{rows_at, row_count, empty_cell}
 use Rattle.ft_edits.specs.Lists.{without_last}
-use Rattle.ft_edits.specs.Faults.{first_of, fault_of, sampled, framed, samples_at, sample_count, frames_at, wide_at, width_in, missing_instrument, missing_sample, missing_row, missing_channel, out_of_range}
-use Rattle.ft_edits.specs.Patterns.{with_cell, with_rows, with_new_row, without_row, empty_pattern, with_block, moved, copied}
+use Rattle.ft_edits.specs.Faults.{first_cause, fault_of, sampled, framed, samples_at, sample_count, frames_at, wide_at, width_in, missing_instrument, missing_sample, missing_row, missing_channel, out_of_range}
+use Rattle.ft_edits.specs.Patterns.{with_cell, with_rows, with_new_row, without_row, empty_pattern, with_block, moved_cell, copied}
 use Rattle.ft_edits.specs.Instruments.{zero_instrument, with_map, with_envelope, with_head, with_point}
 use Rattle.ft_edits.specs.Samples.{with_new_sample, without_sample, with_loop, without_frames, with_new_frames, turned, scaled, with_bits}
 use Rattle.ft_edits.specs.Edited.{edited, without_order}
@@ -35,10 +35,10 @@ use Rattle.ft_edits.proofs.SampleFacts.{new_sample_kept, without_kept, sample_na
 
 record HasInstrument (song : Module) (i : ℕ) (causes : List (Option EditFault)) : Type 0 where
   some : 0 < i
-  rest : first_of causes ≡ None
+  rest : first_cause causes ≡ None
 
 has_instrument : (song : Module) (i : ℕ) (causes : List (Option EditFault))
-    → first_of (missing_instrument song i ∷ causes) ≡ None → HasInstrument song i causes
+    → first_cause (missing_instrument song i ∷ causes) ≡ None → HasInstrument song i causes
 has_instrument song i causes none =
     let p = passed (nat_lt 0 i && nat_le i (length song.instruments)) _ causes none in
     record { some = low 0 i (both (nat_lt 0 i) (nat_le i (length song.instruments)) p.0).0; rest = p.1 }
@@ -46,10 +46,10 @@ has_instrument song i causes none =
 record HasSample (song : Module) (i s : ℕ) (causes : List (Option EditFault)) : Type 0 where
   some : 0 < i
   there : s < samples_at song i
-  rest : first_of causes ≡ None
+  rest : first_cause causes ≡ None
 
 has_sample : (song : Module) (i s : ℕ) (causes : List (Option EditFault))
-    → first_of (sampled song i s causes) ≡ None → HasSample song i s causes
+    → first_cause (sampled song i s causes) ≡ None → HasSample song i s causes
 has_sample song i s causes none =
     let h = has_instrument song i (missing_sample song i s ∷ causes) none in
     let p = passed (nat_lt s (samples_at song i)) _ causes h.rest in
@@ -60,10 +60,10 @@ record HasFrames (song : Module) (i s from to : ℕ) (causes : List (Option Edit
   there : s < samples_at song i
   order : from ≤ to
   below : to ≤ frames_at song i s
-  rest : first_of causes ≡ None
+  rest : first_cause causes ≡ None
 
 has_frames : (song : Module) (i s from to : ℕ) (causes : List (Option EditFault))
-    → first_of (framed song i s from to causes) ≡ None → HasFrames song i s from to causes
+    → first_cause (framed song i s from to causes) ≡ None → HasFrames song i s from to causes
 has_frames song i s from to causes none =
     let h = has_sample song i s _ none in
     let p = passed (nat_le from to && nat_le to (frames_at song i s)) _ causes h.rest in
@@ -148,15 +148,15 @@ edited_valid song (edits.Delrow p r) v f none =
     let t = passed (nat_lt r (rows_at song p)) (NoRow r (rows_at song p)) [] s.1 in
     row_kept song p (without_row song.channels r) v
     (λ pattern found valid. without_row_kept song.channels r pattern
-    (subst (λ (it : Option Pattern). r < rows_in it) found (low r (rows_at song p) t.0)) valid)
+    (subst (λ (it : Option Pattern). r < row_count it) found (low r (rows_at song p) t.0)) valid)
 edited_valid song (edits.Clear p r c h w) v f none =
     pattern_kept song p (with_block song.channels r c h w (λ row channel cell. empty_cell)) v
     (λ pattern valid.
     block_kept song.channels r c h w (λ row channel cell. empty_cell) pattern (λ row channel cell old. empty_valid)
     valid)
 edited_valid song (edits.Transpose p r c h w d) v f none =
-    pattern_kept song p (with_block song.channels r c h w (λ row channel cell. moved d cell)) v
-    (λ pattern valid. block_kept song.channels r c h w (λ row channel cell. moved d cell) pattern
+    pattern_kept song p (with_block song.channels r c h w (λ row channel cell. moved_cell d cell)) v
+    (λ pattern valid. block_kept song.channels r c h w (λ row channel cell. moved_cell d cell) pattern
     (λ row channel cell old. moved_kept d cell old) valid)
 edited_valid song (edits.Copy p r c h w q r2 c2) v f none =
     let change : ℕ → ℕ → Cell → Cell = λ row channel cell. copied song p r c r2 c2 row channel in

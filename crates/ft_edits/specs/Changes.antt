@@ -9,17 +9,17 @@ use Rattle.ft_types.specs.declared.sample.Sample.{Sample}
 use Rattle.ft_types.specs.declared.edit.Edit.{Edit}
 use Rattle.ft_types.specs.declared.edit.Edit.TheVariants as edits
 use Rattle.ft_types.specs.Views.{empty_cell}
-use Rattle.ft_edits.specs.Patterns.{with_cell, with_rows, with_new_row, without_row, with_block, moved, copied}
+use Rattle.ft_edits.specs.Patterns.{with_cell, with_rows, with_new_row, without_row, with_block, moved_cell, copied}
 use Rattle.ft_edits.specs.Instruments.{zero_instrument, with_map, with_envelope, with_head, with_point}
 use Rattle.ft_edits.specs.Samples.{with_new_sample, without_sample, with_loop, without_frames, with_new_frames, turned, scaled, with_bits}
 
 -- a cell of the block
 abbrev pub cell_changed : Edit → Cell → Cell
 cell_changed (edits.Clear p r c h w) cell = empty_cell
-cell_changed (edits.Transpose p r c h w d) cell = moved d cell
+cell_changed (edits.Transpose p r c h w d) cell = moved_cell d cell
 cell_changed _ cell = cell
 
--- rows and single cells of a pattern, in a song of so many channels
+-- rows and single cells of a pattern, in a song of that many channels
 abbrev pub rows_changed : ℕ → Edit → Pattern → Pattern
 rows_changed channels (edits.Cell p r c note ins vol eff par) pattern =
     with_cell channels r c
@@ -35,7 +35,7 @@ abbrev pub pattern_changed : Module → Edit → Pattern → Pattern
 pattern_changed song (edits.Clear p r c h w) pattern =
     with_block song.channels r c h w (λ row channel cell. empty_cell) pattern
 pattern_changed song (edits.Transpose p r c h w d) pattern =
-    with_block song.channels r c h w (λ row channel cell. moved d cell) pattern
+    with_block song.channels r c h w (λ row channel cell. moved_cell d cell) pattern
 pattern_changed song (edits.Copy p r c h w q r2 c2) pattern =
     with_block song.channels r2 c2 h w
     (λ row channel cell. copied song p r c r2 c2 row channel) pattern

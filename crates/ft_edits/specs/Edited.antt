@@ -7,7 +7,7 @@ use Rattle.ft_types.specs.declared.edit.Edit.{Edit}
 use Rattle.ft_types.specs.declared.edit.Edit.TheVariants as edits
 use Rattle.ft_types.specs.Views.{empty_cell}
 use Rattle.ft_edits.specs.Lists.{without_last}
-use Rattle.ft_edits.specs.Patterns.{with_pattern, with_cell, with_rows, with_new_row, without_row, empty_pattern, with_block, moved, copied}
+use Rattle.ft_edits.specs.Patterns.{with_pattern, with_cell, with_rows, with_new_row, without_row, empty_pattern, with_block, moved_cell, copied}
 use Rattle.ft_edits.specs.Instruments.{with_instrument, zero_instrument, with_map, with_envelope, with_head, with_point}
 use Rattle.ft_edits.specs.Samples.{with_sample, with_new_sample, without_sample, with_loop, without_frames, with_new_frames, turned, scaled, with_bits}
 
@@ -31,7 +31,7 @@ edited song (edits.Delrow p r) = with_pattern p (without_row song.channels r) so
 edited song (edits.Clear p r c h w) =
     with_pattern p (with_block song.channels r c h w (λ row channel cell. empty_cell)) song
 edited song (edits.Transpose p r c h w d) =
-    with_pattern p (with_block song.channels r c h w (λ row channel cell. moved d cell)) song
+    with_pattern p (with_block song.channels r c h w (λ row channel cell. moved_cell d cell)) song
 edited song (edits.Copy p r c h w q r2 c2) =
     with_pattern q
     (with_block song.channels r2 c2 h w

@@ -1,4 +1,4 @@
--- Why an edit is refused: for each edit its causes, in the order in which they are told.
+-- Why an edit is refused: for each edit its causes, in the order in which they are answered.
 use Rattle.std.specs.Prelude.{ℕ, ◌+◌, ◌-◌, ◌&&◌, ◌||◌, Bool, true, false, List, [], ◌∷◌, ◌++◌, Option, None, Some, ℤ, pos, negsuc, length, nat_lt, nat_le, nat_eq, if◌then◌else◌}
 use Rattle.ft_types.specs.declared.module.Module.{Module}
 use Rattle.ft_types.specs.declared.instrument.Instrument.{Instrument}
@@ -18,10 +18,10 @@ unless true fault = None
 unless false fault = Some fault
 
 -- the first cause of these, if there is one
-abbrev pub first_of : List (Option EditFault) → Option EditFault
-first_of [] = None
-first_of (None ∷ causes) = first_of causes
-first_of (Some fault ∷ causes) = Some fault
+abbrev pub first_cause : List (Option EditFault) → Option EditFault
+first_cause [] = None
+first_cause (None ∷ causes) = first_cause causes
+first_cause (Some fault ∷ causes) = Some fault
 
 -- unless the pattern is stored
 abbrev pub missing_pattern : Module → ℕ → Option EditFault
@@ -44,7 +44,7 @@ abbrev pub out_of_range : ℕ → ℕ → ℕ → ℕ → Option EditFault
 out_of_range field low high found =
     unless (nat_le low found && nat_le found high) (Range field (pos found))
 
--- unless there would be at most so many
+-- unless there would be at most that many
 abbrev pub over_limit : ℕ → ℕ → ℕ → Option EditFault
 over_limit what most count = unless (nat_le count most) (TooMany what count)
 
@@ -61,12 +61,12 @@ sample_count (Some instrument) = length instrument.samples
 abbrev pub samples_at : Module → ℕ → ℕ
 samples_at song i = sample_count (instrument_at song i)
 
-abbrev pub frame_count : Option Sample → ℕ
-frame_count None = 0
-frame_count (Some sample) = length sample.frames
+abbrev pub sample_length : Option Sample → ℕ
+sample_length None = 0
+sample_length (Some sample) = length sample.frames
 
 abbrev pub frames_at : Module → ℕ → ℕ → ℕ
-frames_at song i s = frame_count (sample_in (instrument_at song i) s)
+frames_at song i s = sample_length (sample_in (instrument_at song i) s)
 
 abbrev pub width_in : Option Sample → Bool
 width_in None = false
@@ -86,10 +86,10 @@ is_narrow (pos n) = nat_le n 127
 is_narrow (negsuc n) = nat_le n 127
 
 -- the first frame that isn't one
-abbrev pub narrow_frames : List ℤ → Option EditFault
-narrow_frames [] = None
-narrow_frames (frame ∷ frames) =
-    if is_narrow frame then narrow_frames frames else Some (Range field_frame frame)
+abbrev pub first_wide_frame : List ℤ → Option EditFault
+first_wide_frame [] = None
+first_wide_frame (frame ∷ frames) =
+    if is_narrow frame then first_wide_frame frames else Some (Range field_frame frame)
 
 -- ---- groups of them
 
@@ -200,7 +200,7 @@ causes_of song (edits.Cut i s from to) = framed song i s from to []
 causes_of song (edits.Paste i s at frames) =
     framed song i s at at
     (over_limit kind_frames most_frames (frames_at song i s + length frames)
-    ∷ (if wide_at song i s then None else narrow_frames frames)
+    ∷ (if wide_at song i s then None else first_wide_frame frames)
     ∷ [])
 causes_of song (edits.Reverse i s from to) = framed song i s from to []
 causes_of song (edits.Scale i s from to n d) =
@@ -210,4 +210,4 @@ causes_of song (edits.Bits i s b) =
 
 -- the fault of an edit of a song, if there is one
 abbrev pub fault_of : Module → Edit → Option EditFault
-fault_of song edit = first_of (causes_of song edit)
+fault_of song edit = first_cause (causes_of song edit)

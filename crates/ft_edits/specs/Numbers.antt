@@ -1,4 +1,4 @@
--- The numbers that faults tell: which field is out of its range, of what there would be too many,
+-- The numbers that faults name: which field is out of its range, of what there would be too many,
 -- and how many there are at most.
 use Rattle.std.specs.Prelude.{ℕ}
 

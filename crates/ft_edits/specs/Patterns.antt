@@ -13,7 +13,7 @@ with_pattern p change song = record song { patterns = changed_at p change song.p
 abbrev pub with_cells : (List Cell → List Cell) → Pattern → Pattern
 with_cells change pattern = record pattern { cells = change pattern.cells }
 
--- ---- cells and rows, in a song of so many channels
+-- ---- cells and rows, in a song of that many channels
 
 abbrev pub empty_rows : ℕ → ℕ → List Cell
 empty_rows channels rows = replicate (rows * channels) empty_cell
@@ -21,7 +21,7 @@ empty_rows channels rows = replicate (rows * channels) empty_cell
 abbrev pub with_cell : ℕ → ℕ → ℕ → Cell → Pattern → Pattern
 with_cell channels r c cell = with_cells (λ cells. set cells (r * channels + c) cell)
 
--- so many rows: cut, or filled with empty ones
+-- that many rows: cut, or filled with empty ones
 abbrev pub with_rows : ℕ → ℕ → Pattern → Pattern
 with_rows channels n pattern =
     record { rows = n; cells = take (n * channels) (pattern.cells ++ empty_rows channels n) }
@@ -59,18 +59,19 @@ with_block channels r c h w change =
     if in_block r c h w (place / channels) (place % channels)
     then change (place / channels) (place % channels) cell else cell) 0)
 
-abbrev pub is_note : ℤ → Bool
-is_note (pos note) = nat_lt 0 note && nat_le note 96
-is_note (negsuc below) = false
+abbrev pub is_note_number : ℤ → Bool
+is_note_number (pos note) = nat_lt 0 note && nat_le note 96
+is_note_number (negsuc below) = false
 
--- a note moved by so many semitones, where it stays one; other notes stay as they are
+-- a note moved by that many semitones, where it stays one; other notes stay as they are
 abbrev pub moved_note : ℤ → ℕ → ℕ
 moved_note d note =
-    if is_note (pos note) && is_note (pos note +ℤ d) then nat_abs (pos note +ℤ d) else note
+    if is_note_number (pos note) && is_note_number (pos note +ℤ d) then nat_abs (pos note +ℤ d)
+    else note
 
-abbrev pub moved : ℤ → Cell → Cell
-moved d cell = record cell { note = moved_note d cell.note }
+abbrev pub moved_cell : ℤ → Cell → Cell
+moved_cell d cell = record cell { note = moved_note d cell.note }
 
--- the cell of the song that stands as far from row r and channel c as this one from r2 and c2
+-- the cell of the song that is as far from row r and channel c as this one from r2 and c2
 abbrev pub copied : Module → ℕ → ℕ → ℕ → ℕ → ℕ → ℕ → ℕ → Cell
 copied song p r c r2 c2 row channel = cell_at song p (r + (row - r2)) (c + (channel - c2))

@@ -2,7 +2,7 @@
 
 ghost use Rattle.std.specs.Prelude.{◌≡◌, ◌≤◌, ◌+◌, ◌-◌, ◌&&◌, ◌||◌, None, length, nat_lt, nat_le, nat_eq, pos, if◌then◌else◌};
 ghost use Rattle.ft_edits.specs.Numbers.{most_frames, kind_frames};
-ghost use Rattle.ft_edits.specs.Faults.{unless, out_of_range, over_limit, missing_order, is_narrow, narrow_frames};
+ghost use Rattle.ft_edits.specs.Faults.{unless, out_of_range, over_limit, missing_order, is_narrow, first_wide_frame};
 
 use crate::numbers::{field, kind, most};
 use crate::sizes::{SampleSizes, SongSizes};
@@ -40,7 +40,7 @@ pub(crate) fn over(field: u8, high: u8, found: u8) -> Option<EditFault>
     out_of_range(field, 0, u16::from(high), u16::from(found))
 }
 
-/// Unless there would be at most so many.
+/// Unless there would be at most that many.
 fn over_limit(what: u8, most: u32, count: u32) -> Option<EditFault>
     ensures { result ≡ over_limit what most count }
 {
@@ -61,7 +61,7 @@ pub(crate) fn missing_pattern(song: SongSizes, p: u8) -> Option<EditFault>
     unless(u16::from(p) < song.patterns, EditFault::NoPattern { p })
 }
 
-/// Unless a pattern of so many rows has this row.
+/// Unless a pattern of that many rows has this row.
 pub(crate) fn missing_row(rows: u16, row: u32) -> Option<EditFault>
     ensures { result ≡ unless (nat_lt row rows) (EditFault.NoRow row rows) }
 {
@@ -135,8 +135,8 @@ fn is_narrow(frame: i16) -> bool
 }
 
 /// The first frame that doesn't have 8 bits.
-fn narrow_frames(frames: &[i16]) -> Option<EditFault>
-    ensures { result ≡ narrow_frames frames.now }
+fn first_wide_frame(frames: &[i16]) -> Option<EditFault>
+    ensures { result ≡ first_wide_frame frames.now }
 {
     for frame in frames.iter() {
         if !is_narrow(*frame) {
@@ -164,10 +164,10 @@ pub(crate) fn too_many_frames(sizes: SampleSizes, frames: &[i16]) -> Option<Edit
 
 /// Unless frames fit the width of a sample.
 pub(crate) fn too_wide(sizes: SampleSizes, frames: &[i16]) -> Option<EditFault>
-    ensures { result ≡ (if sizes.wide then None else narrow_frames frames.now) }
+    ensures { result ≡ (if sizes.wide then None else first_wide_frame frames.now) }
 {
     if sizes.wide {
         return None;
     }
-    narrow_frames(frames)
+    first_wide_frame(frames)
 }

@@ -7,7 +7,7 @@ ghost use Rattle.ft_types.specs.Views.{rows_at};
 ghost use Rattle.ft_edits.specs.Numbers.{field_which, field_count, field_index, field_flags};
 ghost use Rattle.ft_edits.specs.Groups.{group_of};
 ghost use Rattle.ft_edits.specs.Sizes.{song_sizes, sample_sizes};
-ghost use Rattle.ft_edits.specs.Faults.{first_of, fault_of, out_of_range, block_of, sampled, framed};
+ghost use Rattle.ft_edits.specs.Faults.{first_cause, fault_of, out_of_range, block_of, sampled, framed};
 
 use crate::cause::{
     loop_past, missing_channel, missing_frames, missing_instrument, missing_order, missing_pattern,
@@ -18,11 +18,11 @@ use crate::numbers::{field, kind, most};
 use crate::sizes::{SampleSizes, SizeView, SongSizes};
 use ft_types::{Edit, EditFault};
 
-/// The first fault of a block, `h` rows of `w` channels from row `r` and channel `c`, in a pattern of
-/// so many rows.
+/// The first fault of a block, `h` rows of `w` channels from row `r` and channel `c`, in a pattern
+/// of that many rows.
 fn block_fault(song: SongSizes, rows: u16, p: u8, r: u16, c: u8, h: u16, w: u8) -> Option<EditFault>
     ensures { (m : Module) → song ≡ song_sizes m → rows ≡ rows_at m p
-        → result ≡ first_of (block_of m p r c h w) }
+        → result ≡ first_cause (block_of m p r c h w) }
 {
     let row = (u32::from(r) + u32::from(h)).saturating_sub(1);
     let channel = (u16::from(c) + u16::from(w)).saturating_sub(1);
@@ -99,7 +99,7 @@ fn song_fault(song: SongSizes, e: &Edit) -> Option<EditFault>
 
 /// The first fault of the head of an envelope.
 fn head_fault(w: u8, count: u8, sus: u8, ls: u8, le: u8, flags: u8) -> Option<EditFault>
-    ensures { result ≡ first_of (out_of_range field_which 0 1 w
+    ensures { result ≡ first_cause (out_of_range field_which 0 1 w
         ∷ out_of_range field_count 0 12 count
         ∷ out_of_range field_index 0 11 sus
         ∷ out_of_range field_index 0 11 ls
@@ -163,7 +163,7 @@ fn instrument_fault<S: SizeView>(view: &mut S, song: SongSizes, e: &Edit) -> Opt
 /// The first fault of a sample's place.
 fn sample_fault(song: SongSizes, sizes: SampleSizes, i: u8, s: u8) -> Option<EditFault>
     ensures { (m : Module) → song ≡ song_sizes m → sizes ≡ sample_sizes m i s
-        → result ≡ first_of (sampled m i s []) }
+        → result ≡ first_cause (sampled m i s []) }
 {
     missing_instrument(song, i).or(missing_sample(sizes, i, s))
 }
@@ -178,7 +178,7 @@ fn frames_fault(
     to: u32,
 ) -> Option<EditFault>
     ensures { (m : Module) → song ≡ song_sizes m → sizes ≡ sample_sizes m i s
-        → result ≡ first_of (framed m i s from to []) }
+        → result ≡ first_cause (framed m i s from to []) }
 {
     sample_fault(song, sizes, i, s).or(missing_frames(sizes, from, to))
 }

@@ -11,7 +11,7 @@ pub fn valid_stays_valid()
 {}
 
 /// An edit that isn't refused names rows, channels, orders and frames that are there.
-pub fn allowed_is_there()
+pub fn allowed_edits_name_what_is_there()
     ensures { AllowedIsThere }
 {}
 

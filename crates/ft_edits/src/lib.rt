@@ -7,7 +7,7 @@
 //! these that is.
 //!
 //! `fault_of` finds the first fault of an edit by the sizes of a song alone, over any view that
-//! tells them (`SizeView`). It takes no memory.
+//! answers them (`SizeView`). It takes no memory.
 #![tactic(auto)]
 
 mod cause;
@@ -22,7 +22,7 @@ mod sizes;
 pub use fault::fault_of;
 pub use fields::holds_fields;
 pub use group::{Group, group_of};
-pub use laws::{allowed_is_there, one_is_changed, valid_stays_valid};
+pub use laws::{allowed_edits_name_what_is_there, one_is_changed, valid_stays_valid};
 pub use module_sizes::{ModuleSizes, fault_of_module};
 pub use numbers::{field, kind, most};
 pub use sizes::{SampleSizes, SizeView, SongSizes};

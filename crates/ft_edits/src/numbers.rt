@@ -1,4 +1,4 @@
-//! The numbers that faults tell.
+//! The numbers that faults name.
 
 /// Fields of a range.
 pub mod field {

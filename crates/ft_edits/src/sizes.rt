@@ -30,7 +30,7 @@ pub struct SampleSizes {
     pub wide: bool,
 }
 
-/// Tells the sizes of a song.
+/// Answers the sizes of a song.
 ///
 /// Each call says what it answers for whatever song the view may show after the call, and that it
 /// might show this song before: a call never widens what a view may show. No call takes memory.

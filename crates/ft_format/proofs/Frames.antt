@@ -6,7 +6,7 @@ use Rattle.std.specs.Int.{w8, w16, cast_signed, cast_unsigned}
 use Rattle.std.proofs.lemmas.Int.{to_z-of_z}
 use Rattle.std.proofs.lemmas.List.{length-map}
 use Rattle.std.proofs.lemmas.List.Elements.{All-head, All-tail, All-nil, All-cons, All-map}
-use Rattle.ft_format.specs.Fields.{u16}
+use Rattle.ft_format.specs.Fields.{two_bytes}
 use Rattle.ft_format.specs.Canon.{steps_from}
 use Rattle.ft_format.specs.Sample.{sums_from, pairs_of, narrow_frames, wide_frames}
 use Rattle.ft_format.proofs.Lists.{map_back}
@@ -104,19 +104,19 @@ length_steps span before (x ∷ xs) = ap suc (length_steps span x xs)
 pair_back : (x : ℕ) → x < 65536 → x % 256 + 256 * (x / 256 % 256) ≡ x
 pair_back x lt = omega (arith, lt)
 
-pairs_back : (xs : List ℕ) → All (λ x. x < 65536) xs → pairs_of (flat_map u16 xs) ≡ xs
+pairs_back : (xs : List ℕ) → All (λ x. x < 65536) xs → pairs_of (flat_map two_bytes xs) ≡ xs
 pairs_back [] all = refl
 pairs_back (x ∷ xs) all =
-    ap (λ (y : ℕ). y ∷ pairs_of (flat_map u16 xs)) (pair_back x (All-head (λ x. x < 65536) x xs all))
+    ap (λ (y : ℕ). y ∷ pairs_of (flat_map two_bytes xs)) (pair_back x (All-head (λ x. x < 65536) x xs all))
     ∙ ap (λ (l : List ℕ). x ∷ l) (pairs_back xs (All-tail (λ x. x < 65536) x xs all))
 
-pairs_bytes : (xs : List ℕ) → All (λ x. x < 256) (flat_map u16 xs)
+pairs_bytes : (xs : List ℕ) → All (λ x. x < 256) (flat_map two_bytes xs)
 pairs_bytes [] = All-nil _
 pairs_bytes (x ∷ xs) =
-    All-cons (λ x. x < 256) (x % 256) (x / 256 % 256 ∷ flat_map u16 xs) (omega arith)
-    (All-cons (λ x. x < 256) (x / 256 % 256) (flat_map u16 xs) (omega arith) (pairs_bytes xs))
+    All-cons (λ x. x < 256) (x % 256) (x / 256 % 256 ∷ flat_map two_bytes xs) (omega arith)
+    (All-cons (λ x. x < 256) (x / 256 % 256) (flat_map two_bytes xs) (omega arith) (pairs_bytes xs))
 
-pairs_length : (xs : List ℕ) → length (flat_map u16 xs) ≡ 2 * length xs
+pairs_length : (xs : List ℕ) → length (flat_map two_bytes xs) ≡ 2 * length xs
 pairs_length [] = refl
 pairs_length (x ∷ xs) = omega (arith, pairs_length xs)
 
@@ -124,7 +124,7 @@ abbrev pub narrow_data : List ℤ → List ℕ
 narrow_data frames = steps_from 256 0 (map (cast_unsigned w8) frames)
 
 abbrev pub wide_data : List ℤ → List ℕ
-wide_data frames = flat_map u16 (steps_from 65536 0 (map (cast_unsigned w16) frames))
+wide_data frames = flat_map two_bytes (steps_from 65536 0 (map (cast_unsigned w16) frames))
 
 pub narrow_back : (frames : List ℤ) → All (FitsSigned w8) frames → narrow_frames (narrow_data frames) ≡ frames
 unfolding narrow_frames

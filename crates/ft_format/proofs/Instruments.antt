@@ -13,7 +13,7 @@ use Rattle.ft_types.specs.declared.sample.Sample.{Sample}
 use Rattle.ft_types.specs.Valid.{IsValidPoint, IsValidEnvelope, IsValidVibrato, IsValidInstrument, IsZeroPoint, IsZeroEnvelope}
 use Rattle.ft_format.specs.declared.instrument.InstrumentHead.{InstrumentHead}
 use Rattle.ft_format.specs.declared.layout.TheConstants.{NO_ENVELOPE}
-use Rattle.ft_format.specs.Fields.{u16}
+use Rattle.ft_format.specs.Fields.{two_bytes}
 use Rattle.ft_format.specs.Sample.{RawSampleFits, sample_from}
 use Rattle.ft_format.specs.Instrument.{RawInstrumentFits, RestFits, HeadFits, point_text, shapes_of, shapes_text, vibrato_text, PointFits, ExtraFits, extra_text, point_of, envelope_of, vibrato_of, instrument_with, instrument_of}
 use Rattle.ft_format.specs.Canon.{raw_sample_of, head_size, extra_of, rest_of, raw_instrument_of}
@@ -74,7 +74,7 @@ extra_length i w =
     let v = flat_map point_text i.volume.points in
     let p = flat_map point_text i.panning.points in
     let s = shapes_text (shapes_of e.envelopes) in
-    let tail = vibrato_text e.vibrato ++ u16 e.fadeout in
+    let tail = vibrato_text e.vibrato ++ two_bytes e.fadeout in
     omega (
       arith,
       length-append i.map ((v ++ (p ++ s)) ++ tail),

@@ -38,7 +38,7 @@ steps_again : (samples : List Sample)
     → flat_map (λ sample. sample.steps) (map raw_sample_of samples) ≡ flat_map sample_data samples
 steps_again samples = flat_map-map (λ sample. sample.steps) raw_sample_of samples
 
--- what stands behind a head, where the test says whether there are samples
+-- what follows a head, where the test says whether there are samples
 abbrev rest_bytes : Bool → Instrument → List ℕ
 rest_bytes none i = rest_text none (rest_of none i)
 

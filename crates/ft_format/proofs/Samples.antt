@@ -79,7 +79,7 @@ few_bytes false n le = omega (arith, le)
 
 -- ---- the loop
 
--- a loop within so many frames, or none
+-- a loop within that many frames, or none
 record Loop (frames kind start len : ℕ) : Type 0 where
   in_start : start ≤ frames
   in_len : start + len ≤ frames

@@ -92,11 +92,11 @@ pattern_valid channels raw fits =
 
 -- ---- samples
 
--- the loop that stands in a sample, where the test says that it has none
+-- the loop that is in a sample, where the test says that it has none
 abbrev kept : Bool → ℕ → ℕ
 kept none x = cond none 0 x
 
--- the numbers of a loop that fits so many frames
+-- the numbers of a loop that fits that many frames
 record Loop (frames kind start len : ℕ) : Type 0 where
   low : kind ≤ 2
   none_start : kind ≡ 0 → start ≡ 0

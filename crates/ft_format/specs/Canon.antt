@@ -16,7 +16,7 @@ use Rattle.ft_format.specs.declared.sample.SampleHeader.{SampleHeader}
 use Rattle.ft_format.specs.declared.instrument.InstrumentHead.{InstrumentHead}
 use Rattle.ft_format.specs.declared.instrument.Extra.{Extra}
 use Rattle.ft_format.specs.declared.layout.TheConstants.{CAPITAL, MARK, HEADER_SIZE, ORDER_TABLE, MASK, PATTERN_HEAD, SHORT_HEAD, LONG_HEAD, UNUSED, SAMPLE_HEADER, NO_EXTRA}
-use Rattle.ft_format.specs.Fields.{u16}
+use Rattle.ft_format.specs.Fields.{two_bytes}
 use Rattle.ft_format.specs.Header.{RawHeader, header_text}
 use Rattle.ft_format.specs.Pattern.{RawPattern, raw_cell_text, pattern_text}
 use Rattle.ft_format.specs.Sample.{RawSample, sample_header_text}
@@ -74,13 +74,13 @@ abbrev pub mask_of : List ℕ → ℕ
 mask_of [] = 0
 mask_of (x ∷ xs) = (if is_set x then 1 else 0) + 2 * mask_of xs
 
--- the note where none of the five bytes is 0; else a mask, behind which those stand that aren't 0
-abbrev pub first_of : Cell → ℕ
-first_of cell =
+-- the note where none of the five bytes is 0; else a mask, and behind it those that aren't 0
+abbrev pub first_byte_of : Cell → ℕ
+first_byte_of cell =
     if list_all is_set (bytes_of_cell cell) then cell.note else MASK + mask_of (bytes_of_cell cell)
 
 abbrev pub raw_cell_of : Cell → RawCell
-raw_cell_of cell = record { first = first_of cell; cell = cell }
+raw_cell_of cell = record { first = first_byte_of cell; cell = cell }
 
 abbrev pub cell_bytes : Cell → List ℕ
 cell_bytes cell = raw_cell_text (raw_cell_of cell)
@@ -139,7 +139,8 @@ steps_from span before (x ∷ xs) = (x + (span - before)) % span ∷ steps_from 
 -- frames in two's complement as steps, which begin at 0
 unfoldable pub sample_data : Sample → List ℕ
 sample_data sample =
-    if sample.wide then flat_map u16 (steps_from (2 ^ 16) 0 (map (cast_unsigned w16) sample.frames))
+    if sample.wide then flat_map two_bytes
+    (steps_from (2 ^ 16) 0 (map (cast_unsigned w16) sample.frames))
     else steps_from (2 ^ 8) 0 (map (cast_unsigned w8) sample.frames)
 
 abbrev pub raw_sample_of : Sample → RawSample

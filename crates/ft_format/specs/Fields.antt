@@ -7,11 +7,11 @@ use Rattle.byteorder.specs.Endian.{little_bytes}
 abbrev pub byte : ℕ → List ℕ
 byte x = x ∷ []
 
-abbrev pub u16 : ℕ → List ℕ
-u16 x = little_bytes 2 x
+abbrev pub two_bytes : ℕ → List ℕ
+two_bytes x = little_bytes 2 x
 
-abbrev pub u32 : ℕ → List ℕ
-u32 x = little_bytes 4 x
+abbrev pub four_bytes : ℕ → List ℕ
+four_bytes x = little_bytes 4 x
 
 -- a number in a field of n bytes
 abbrev pub IsNumber : ℕ → ℕ → Type 0

@@ -8,7 +8,7 @@ use Rattle.ft_format.specs.declared.header.Sizes.{Sizes}
 use Rattle.ft_format.specs.declared.header.Settings.{Settings}
 use Rattle.ft_format.specs.declared.layout.TheConstants.{VERSION, BEFORE_ORDERS, LEAST_HEADER_SIZE}
 use Rattle.ft_format.specs.declared.limits.TheConstants.{MOST_ORDERS, MOST_CHANNELS, MOST_PATTERNS, MOST_INSTRUMENTS}
-use Rattle.ft_format.specs.Fields.{byte, u16, u32, IsNumber, IsField, brought}
+use Rattle.ft_format.specs.Fields.{byte, two_bytes, four_bytes, IsNumber, IsField, brought}
 
 -- the fields, and an order table of any length
 pub record RawHeader : Type 0 where
@@ -24,13 +24,14 @@ titles_text titles = titles.name ++ (byte titles.mark ++ titles.tracker)
 
 abbrev pub sizes_text : Sizes → List ℕ
 sizes_text sizes =
-    u16 VERSION
-    ++ (u32 sizes.size ++ (u16 sizes.length ++ (u16 sizes.restart ++ u16 sizes.channels)))
+    two_bytes VERSION
+    ++ (four_bytes sizes.size
+    ++ (two_bytes sizes.length ++ (two_bytes sizes.restart ++ two_bytes sizes.channels)))
 
 abbrev pub settings_text : Settings → List ℕ
-settings_text settings = u16 settings.patterns
-    ++ (u16 settings.instruments
-    ++ (u16 settings.flags ++ (u16 settings.tempo ++ u16 settings.bpm)))
+settings_text settings = two_bytes settings.patterns
+    ++ (two_bytes settings.instruments
+    ++ (two_bytes settings.flags ++ (two_bytes settings.tempo ++ two_bytes settings.bpm)))
 
 unfoldable pub header_text : RawHeader → List ℕ
 header_text raw =

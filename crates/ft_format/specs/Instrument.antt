@@ -13,13 +13,13 @@ use Rattle.ft_format.specs.declared.instrument.Shapes.{Shapes}
 use Rattle.ft_format.specs.declared.instrument.Envelopes.{Envelopes}
 use Rattle.ft_format.specs.declared.layout.TheConstants.{SHORT_HEAD, LEAST_LONG_HEAD, NO_EXTRA}
 use Rattle.ft_format.specs.declared.limits.TheConstants.{MOST_SAMPLES}
-use Rattle.ft_format.specs.Fields.{byte, u16, u32, IsNumber, IsField, AllFit, FitsWithin}
+use Rattle.ft_format.specs.Fields.{byte, two_bytes, four_bytes, IsNumber, IsField, AllFit, FitsWithin}
 use Rattle.ft_format.specs.Sample.{RawSample, RawSampleFits, sample_header_text, sample_from}
 
 -- ---- the head, of 29 bytes
 
 abbrev pub head_text : InstrumentHead → List ℕ
-head_text head = u32 head.size ++ (head.name ++ (byte head.kind ++ u16 head.samples))
+head_text head = four_bytes head.size ++ (head.name ++ (byte head.kind ++ two_bytes head.samples))
 
 -- a head with samples is longer
 pub record HeadFits (head : InstrumentHead) : Type 0 where
@@ -30,10 +30,10 @@ pub record HeadFits (head : InstrumentHead) : Type 0 where
   pub kind : IsNumber 1 head.kind
   pub samples : head.samples ≤ MOST_SAMPLES
 
--- ---- what stands in the head of an instrument with samples, 212 bytes
+-- ---- what is in the head of an instrument with samples, 212 bytes
 
 abbrev pub point_text : Point → List ℕ
-point_text point = u16 point.x ++ u16 point.y
+point_text point = two_bytes point.x ++ two_bytes point.y
 
 abbrev pub pair_text : Pair → List ℕ
 pair_text pair = byte pair.volume ++ byte pair.panning
@@ -72,8 +72,8 @@ envelopes_text envelopes = flat_map point_text envelopes.volume.points
 
 -- sample header size, note map, envelopes, automatic vibrato, fadeout
 unfoldable pub extra_text : Extra → List ℕ
-extra_text extra = u32 extra.header_size ++ (extra.map ++ (envelopes_text extra.envelopes
-    ++ (vibrato_text extra.vibrato ++ u16 extra.fadeout)))
+extra_text extra = four_bytes extra.header_size ++ (extra.map ++ (envelopes_text extra.envelopes
+    ++ (vibrato_text extra.vibrato ++ two_bytes extra.fadeout)))
 
 pub record PointFits (point : Point) : Type 0 where
   pub x : IsNumber 2 point.x
@@ -114,8 +114,8 @@ pub record ExtraFits (extra : Extra) : Type 0 where
 
 -- ---- the whole
 
--- what stands behind the first bytes of a head: for an instrument with samples the extra fields;
--- skipped bytes; all sample headers, and then the data of each sample
+-- what follows the first bytes of a head: for an instrument with samples the extra fields; skipped
+-- bytes; all sample headers, and then the data of each sample
 pub record RawRest : Type 0 where
   pub extra : Extra
   pub skipped : List ℕ

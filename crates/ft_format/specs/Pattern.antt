@@ -6,7 +6,7 @@ use Rattle.ft_format.specs.declared.pattern.PatternHead.{PatternHead}
 use Rattle.ft_format.specs.declared.cell.RawCell.{RawCell}
 use Rattle.ft_format.specs.declared.layout.TheConstants.{PATTERN_HEAD, PACKING, MASK, INSTRUMENT_BIT, VOLUME_BIT, EFFECT_BIT, PARAMETER_BIT, EMPTY_CELL}
 use Rattle.ft_format.specs.declared.limits.TheConstants.{MOST_ROWS, ROWS_FOR_NONE, KEY_OFF}
-use Rattle.ft_format.specs.Fields.{byte, u16, u32, IsNumber, IsField, AllFit, FitsWithin, byte_if_text, IsByteIf}
+use Rattle.ft_format.specs.Fields.{byte, two_bytes, four_bytes, IsNumber, IsField, AllFit, FitsWithin, byte_if_text, IsByteIf}
 
 -- ---- cells
 
@@ -19,9 +19,9 @@ abbrev pub note_text : Bool → ℕ → ℕ → List ℕ
 note_text true first note = []
 note_text false first note = byte_if_text (first % 2 == 1) note
 
-abbrev pub IsNote : Bool → ℕ → ℕ → Type 0
-IsNote true first note = note ≡ first
-IsNote false first note = IsByteIf (first % 2 == 1) note
+abbrev pub IsNoteByte : Bool → ℕ → ℕ → Type 0
+IsNoteByte true first note = note ≡ first
+IsNoteByte false first note = IsByteIf (first % 2 == 1) note
 
 -- the first byte, and those of the five bytes that follow it
 unfoldable pub raw_cell_text : RawCell → List ℕ
@@ -33,7 +33,7 @@ raw_cell_text raw = byte raw.first ++ (note_text (nat_lt raw.first MASK) raw.fir
 
 pub record RawCellFits (raw : RawCell) : Type 0 where
   pub first : IsNumber 1 raw.first
-  pub note : IsNote (nat_lt raw.first MASK) raw.first raw.cell.note
+  pub note : IsNoteByte (nat_lt raw.first MASK) raw.first raw.cell.note
   pub instrument : IsByteIf (has raw.first INSTRUMENT_BIT) raw.cell.instrument
   pub volume : IsByteIf (has raw.first VOLUME_BIT) raw.cell.volume
   pub effect : IsByteIf (has raw.first EFFECT_BIT) raw.cell.effect
@@ -54,7 +54,8 @@ pub record RawPattern : Type 0 where
 
 -- header length, packing, rows, bytes of data
 abbrev pub pattern_head_text : PatternHead → List ℕ
-pattern_head_text head = u32 head.size ++ (byte PACKING ++ (u16 head.rows ++ u16 head.packed))
+pattern_head_text head =
+    four_bytes head.size ++ (byte PACKING ++ (two_bytes head.rows ++ two_bytes head.packed))
 
 pub record PatternHeadFits (head : PatternHead) : Type 0 where
   pub size : IsNumber 4 head.size
@@ -66,7 +67,7 @@ unfoldable pub pattern_text : RawPattern → List ℕ
 pattern_text raw =
     pattern_head_text raw.head ++ (raw.skipped ++ (flat_map raw_cell_text raw.cells ++ raw.surplus))
 
--- no data, or so many cells and a surplus in as many bytes as the head says
+-- no data, or that many cells and a surplus in as many bytes as the head says
 abbrev pub DataFits : Bool → ℕ → ℕ → List RawCell × List ℕ → Type 0
 DataFits true count packed x = x ≡ ([], [])
 DataFits false count packed x =

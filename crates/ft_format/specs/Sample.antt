@@ -4,13 +4,14 @@ use Rattle.std.specs.Int.{w8, w16, cast_signed}
 use Rattle.ft_types.specs.declared.sample.Sample.{Sample}
 use Rattle.ft_format.specs.declared.sample.SampleHeader.{SampleHeader}
 use Rattle.ft_format.specs.declared.limits.TheConstants.{MOST_FRAMES}
-use Rattle.ft_format.specs.Fields.{byte, u32, IsNumber, IsField}
+use Rattle.ft_format.specs.Fields.{byte, four_bytes, IsNumber, IsField}
 
 -- ---- the header
 
 -- length, loop start and loop length in bytes
 abbrev pub lengths_text : SampleHeader → List ℕ
-lengths_text header = u32 header.length ++ (u32 header.loop_start ++ u32 header.loop_len)
+lengths_text header =
+    four_bytes header.length ++ (four_bytes header.loop_start ++ four_bytes header.loop_len)
 
 -- volume, finetune, type, panning, relative note, a byte that is skipped
 abbrev pub numbers_text : SampleHeader → List ℕ

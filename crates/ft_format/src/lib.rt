@@ -1,10 +1,10 @@
 //! What the bytes of an Extended Module file are, for the reader and the writer.
 //!
 //! There is hardly any code here but the fields of the format as plain values, as a file says them,
-//! before they are brought into the ranges of a module, and the constants of the format. Which bytes
-//! spell a module, and which are its canonical bytes, stands in `specs/`. Laws of these definitions
-//! are proved: what bytes spell is a valid module, the canonical bytes of a valid module spell it,
-//! and their parts have certain sizes.
+//! before they are brought into the ranges of a module, and the constants of the format. Which
+//! bytes spell a module, and which are its canonical bytes, is in `specs/`. Laws of these
+//! definitions are proved: what bytes spell is a valid module, the canonical bytes of a valid
+//! module spell it, and their parts have certain sizes.
 #![tactic(auto)]
 
 mod cell;

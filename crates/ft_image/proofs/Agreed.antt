@@ -12,7 +12,7 @@ use Rattle.ft_shared.specs.declared.law.PlacedVersion.{PlacedVersion}
 use Rattle.ft_shared.specs.declared.law.TakenVersion.{TakenVersion}
 use Rattle.ft_shared.specs.Account.{after_fill}
 use Rattle.ft_shared.specs.Counts.{pin_of}
-use Rattle.ft_shared.specs.History.{placed_at, place_of, Agrees}
+use Rattle.ft_shared.specs.History.{placed_at, root_and_pool, Agrees}
 use Rattle.ft_shared.specs.Pass.{ReaderState, WriterState}
 use Rattle.ft_image.specs.Shown.{Shows}
 use Rattle.ft_image.specs.Read.{MayShowAll, MayShowSample, IsRootOf}
@@ -34,7 +34,7 @@ agreed-before fewer h old new on a =
 
 pub held-shown : (pass : ReaderState) (h : List PlacedVersion) (taken : TakenVersion) (placed : PlacedVersion)
     → Agrees h pass.notes → pass.notes.held ≡ Some taken → placed_at h taken.version ≡ Some placed
-    → IsAmong pass.register.sizes.segments (place_of placed) → MayShowAll MayShowHeld pass (place_of placed)
+    → IsAmong pass.register.sizes.segments (root_and_pool placed) → MayShowAll MayShowHeld pass (root_and_pool placed)
 held-shown pass h taken placed a held found among = λ s of. (
   among,
   record {
@@ -55,11 +55,11 @@ few-indexes x valid = let few = valid.few_frames in omega arith
 
 pub pin-shown : PinHoldsSample → (pass : ReaderState) (channel : ℕ) (h : List PlacedVersion) (pin : Pin) (placed : PlacedVersion)
     (song : Module) (x : Sample) → Agrees h pass.notes → pin_of pass.notes channel ≡ Some pin
-    → placed_at h pin.version ≡ Some placed → IsAmong pass.register.sizes.segments (place_of placed)
-    → Shows (place_of placed) song → IsRootOf (place_of placed) song pin.root x
-    → MayShowSample (λ view. MayShowPinned view channel) pass (place_of placed) pin.root
+    → placed_at h pin.version ≡ Some placed → IsAmong pass.register.sizes.segments (root_and_pool placed)
+    → Shows (root_and_pool placed) song → IsRootOf (root_and_pool placed) song pin.root x
+    → MayShowSample (λ view. MayShowPinned view channel) pass (root_and_pool placed) pin.root
 pin-shown law pass channel h pin placed song x a stands found among shows of = λ s is used.
-    let p : Placed = place_of placed in
+    let p : Placed = root_and_pool placed in
     let sample = sample_found p song pin.root x shows of in
     let few = few-indexes x sample.valid in
     let count = sample.shown.count in (
@@ -79,7 +79,7 @@ written-shown pass placed among stands = λ s of. (among, stands, of)
 pub these-stand : (pass : WriterState) (placed : Placed) → placed.pool ≡ pass.account.pool → StandsWritten pass placed
 these-stand pass placed e = λ s of j l. ap (λ (pool : List ℕ). word_at pool s j) (sym e)
 
--- a version that doesn't have the segment stands while that is filled
+-- a version that doesn't have the segment stays while that is filled
 pub filled-stands : (pass : WriterState) (placed : Placed) (segment at word : ℕ) → StandsWritten pass placed
     → (IsOf placed segment → ⊥) → at < 256 → StandsWritten (record pass { account = after_fill pass.account segment at word }) placed
 filled-stands pass placed segment at word stands none low = λ s of j l.

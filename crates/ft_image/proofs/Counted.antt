@@ -115,7 +115,7 @@ index_count : (pool : List ℕ) (n : ℕ) (x : Sample) (k : ℕ) (q : IndexIds) 
 index_count pool n x k q shown low =
     total_rooted n q.root q.bodies (low q.root (index_root_of q.root q refl)) (λ j s is. low s (index_body_of s j q is))
 
--- indexes from number k on, which name what is left of so many bodies
+-- indexes from number k on, which name what is left of that many bodies
 indexes_count : (bodies k : ℕ) (qs : List IndexIds)
     → ((j : ℕ) (q : IndexIds) → slice_get qs j ≡ Some q → length q.bodies ≡ bodies_of_index bodies (k + j))
     → sum_by (λ (q : IndexIds). 1 + length q.bodies) qs + min (1024 * k) bodies ≡ length qs + min (1024 * (k + length qs)) bodies

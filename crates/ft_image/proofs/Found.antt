@@ -11,7 +11,7 @@ use Rattle.ft_types.specs.declared.pattern.Pattern.{Pattern}
 use Rattle.ft_types.specs.declared.pattern.Cell.{Cell}
 use Rattle.ft_types.specs.Valid.{IsValid, IsValidCell, IsValidPattern}
 use Rattle.ft_types.specs.Blocks.{pieces_of}
-use Rattle.ft_types.specs.Views.{song_head_of, order_at, rows_in, rows_at, cell_in, cell_at, empty_cell}
+use Rattle.ft_types.specs.Views.{song_head_of, order_at, row_count, rows_at, cell_in, cell_at, empty_cell}
 use Rattle.ft_segments.specs.Packing.{digit, word_at, id_at}
 use Rattle.ft_segments.specs.Walk.{Placed, IsOf, ids_of, channels_in, patterns_in, pattern_walk}
 use Rattle.ft_image.specs.Values.{bit, head_word, counts_word, cell_word}
@@ -123,11 +123,11 @@ rows_read p m k found word shows has w =
     let valid : IsValidPattern m.channels has.pattern = subst (IsValidPattern m.channels) same few in
     let is = w ∙ has.shown.rows in
     let low = valid.few_rows in
-    let rows : rows_at m k ≡ has.pattern.rows = ap rows_in has.stored in
+    let rows : rows_at m k ≡ has.pattern.rows = ap row_count has.stored in
     (omega arith, rows)
 
 pub no_rows : (m : Module) (k : ℕ) → length m.patterns ≤ k → rows_at m k ≡ 64
-no_rows m k le = ap rows_in (slice_get_past m.patterns k le)
+no_rows m k le = ap row_count (slice_get_past m.patterns k le)
 
 -- ---- cells
 
@@ -160,7 +160,7 @@ no_cell m k row channel le =
 pub cell_past : (p : Placed) (m : Module) (k found row channel : ℕ) → HasPattern p m k found → rows_at m k ≤ row
     → cell_at m k row channel ≡ empty_cell
 cell_past p m k found row channel has le =
-    let rows : rows_at m k ≡ has.pattern.rows = ap rows_in has.stored in
+    let rows : rows_at m k ≡ has.pattern.rows = ap row_count has.stored in
     let past : has.pattern.rows ≤ row = omega arith in
     ap (λ (x : Option Pattern). cell_in m.channels x row channel) has.stored ∙ (rw (le-ltb row has.pattern.rows past) refl)
 
@@ -182,7 +182,7 @@ pub number_low : (p : Placed) (m : Module) (k found row channel : ℕ) → Shows
     → (row * m.channels + channel < has.pattern.rows * m.channels) × (has.pattern.rows * m.channels ≤ 8192)
 number_low p m k found row channel shows has r c =
     let valid = pattern_valid p m k found shows has in
-    let rows : rows_at m k ≡ has.pattern.rows = ap rows_in has.stored in
+    let rows : rows_at m k ≡ has.pattern.rows = ap row_count has.stored in
     let n : row * m.channels + channel < has.pattern.rows * m.channels
     = subst (λ (z : ℕ). row * m.channels + channel < z) (mul_comm m.channels has.pattern.rows)
     (mul-add-lt row m.channels channel has.pattern.rows (omega arith) c) in
@@ -211,7 +211,7 @@ pub cell_read : (p : Placed) (m : Module) (k found row channel number body word 
 cell_read p m k found row channel number body word shows has r c n at w =
     let low = number_low p m k found row channel shows has r c in
     let valid = pattern_valid p m k found shows has in
-    let rows : rows_at m k ≡ has.pattern.rows = ap rows_in has.stored in
+    let rows : rows_at m k ≡ has.pattern.rows = ap row_count has.stored in
     let cells = has.pattern.cells in
     let here : number < length cells = omega (arith, valid.whole) in
     let b : number / 256 < pieces_of (has.pattern.rows * m.channels) 256 = omega arith in

@@ -14,7 +14,7 @@ use Rattle.ft_segments.specs.Packing.{digit, bytes_word, word_at, id_at}
 use Rattle.ft_segments.specs.Walk.{SampleIds, InstrumentIds, Placed, IsOf, ids_of, instruments_in, samples_in, sample_walk, instrument_walk}
 use Rattle.ft_image.specs.Values.{count_bytes, envelope_bytes, points_word, no_point}
 use Rattle.ft_image.specs.Shown.{Shows}
-use Rattle.ft_image.specs.Read.{HasInstrument, number_at, sample_at, sample_root_at, sample_ids_in, root_in}
+use Rattle.ft_image.specs.Read.{HasInstrument, mapped_sample, sample_at, sample_root_at, sample_ids_in, root_or_none}
 use Rattle.ft_image.proofs.Lists.{stored}
 use Rattle.ft_image.proofs.Packed.{byte-read, first-read}
 use Rattle.ft_image.proofs.Walked.{instrument_at_walk, of_instrument, instrument_root_of, sample_at_walk, sample_walk_root}
@@ -182,7 +182,7 @@ point_back points word j len are lt is =
 -- ---- roots of samples
 
 pub map_read : (p : Placed) (m : Module) (number found note word : ℕ) → Shows p m → (has : HasInstrument p m number found)
-    → note < 96 → word ≡ word_at p.pool found (6 + note / 8) → digit 256 word (note % 8) ≡ number_at m number note
+    → note < 96 → word ≡ word_at p.pool found (6 + note / 8) → digit 256 word (note % 8) ≡ mapped_sample m number note
 map_read p m number found note word shows has lt w =
     let valid = instrument_valid p m number found shows has in
     let low : All (λ byte. byte < 256) has.instrument.map = λ k d l. let a = valid.map k d l in omega arith in
@@ -200,8 +200,8 @@ pub sample_found : (p : Placed) (m : Module) (number found n : ℕ) → Shows p 
 sample_found p m number found n shows has lt =
     let count : samples_in p.pool found ≡ length has.instrument.samples
     = samples_read p m number found (word_at p.pool found 0) shows has refl in
-    ap (λ (ids : Option InstrumentIds). root_in (sample_ids_in ids n)) has.named
-    ∙ ap root_in (sample_at_walk p.pool found n (omega arith))
+    ap (λ (ids : Option InstrumentIds). root_or_none (sample_ids_in ids n)) has.named
+    ∙ ap root_or_none (sample_at_walk p.pool found n (omega arith))
     ∙ ap (λ (r : ℕ). Some r) (sample_walk_root p.pool (id_at p.pool found 30 n))
 
 pub sample_there : (p : Placed) (m : Module) (number found n : ℕ) → (has : HasInstrument p m number found)
@@ -215,8 +215,8 @@ pub sample_absent : (p : Placed) (m : Module) (number found n : ℕ) → Shows p
 sample_absent p m number found n shows has le =
     let ids = instrument_walk p.pool found in
     let count : length ids.samples ≡ length has.instrument.samples = has.shown.each.count in (
-      ap (λ (all : Option InstrumentIds). root_in (sample_ids_in all n)) has.named
-          ∙ ap root_in (slice_get_past ids.samples n (omega arith)),
+      ap (λ (all : Option InstrumentIds). root_or_none (sample_ids_in all n)) has.named
+          ∙ ap root_or_none (slice_get_past ids.samples n (omega arith)),
       ap (λ (x : Option Instrument). is_some (sample_in x n)) has.stored
           ∙ ap is_some (slice_get_past has.instrument.samples n le),
     )
@@ -229,7 +229,7 @@ nothing p m (suc k) n shows none =
     let count : length (ids_of p).instruments ≡ length m.instruments = shows.stands.instruments.count in (
       elim (cases_lt k (length m.instruments)) [
         | inl lt ↦ absurd (let x = stored m.instruments k lt in none-some x.0 (sym none ∙ x.1))
-        | inr le ↦ ap (λ (all : Option InstrumentIds). root_in (sample_ids_in all n))
+        | inr le ↦ ap (λ (all : Option InstrumentIds). root_or_none (sample_ids_in all n))
             (slice_get_past (ids_of p).instruments k (omega arith))
       ],
       ap (λ (x : Option Instrument). is_some (sample_in x n)) none,

@@ -9,7 +9,7 @@ use Rattle.ft_types.specs.declared.instrument.Instrument.{Instrument}
 use Rattle.ft_types.specs.declared.sample.Sample.{Sample}
 use Rattle.ft_segments.specs.Packing.{word_at}
 use Rattle.ft_segments.specs.Walk.{PatternIds, IndexIds, SampleIds, InstrumentIds, SongIds, Placed, IsOf, IsSound, SameWords, ids_of, walk, pattern_uses, index_uses, sample_uses, instrument_uses}
-use Rattle.ft_image.specs.Shown.{ShowsPattern, ShowsIndex, ShowsSample, ShowsInstrument, ShowsSong, Stands, Shows}
+use Rattle.ft_image.specs.Shown.{ShowsPattern, ShowsIndex, ShowsSample, ShowsInstrument, ShowsSong, ShowsParts, Shows}
 use Rattle.ft_image.proofs.Lists.{stored}
 use Rattle.ft_image.proofs.Walked.{root_is, root_walk, of_pattern, pattern_root_of, pattern_body_of, of_instrument, instrument_root_of, of_sample, sample_root_of, of_index, index_root_of, index_body_of}
 use Rattle.ft_image.proofs.Walks.{walks}
@@ -97,7 +97,7 @@ song_kept old new m ids root shown = record {
 }
 
 pub stands_kept : (p : Placed) (m : Module) (new : List ℕ)
-    → ((s : ℕ) → IsOf p s → SameWords p.pool new s) → Stands p.pool m (ids_of p) → Stands new m (ids_of p)
+    → ((s : ℕ) → IsOf p s → SameWords p.pool new s) → ShowsParts p.pool m (ids_of p) → ShowsParts new m (ids_of p)
 stands_kept p m new same stands =
     let ids = ids_of p in
     record {
@@ -130,6 +130,6 @@ shows_kept p m new shows few long same =
           once = shows.sound.once;
           within = λ s one. let lt = shows.sound.within s one in omega arith;
         });
-        stands = subst (λ (ids : SongIds). Stands new m ids) (sym is) stands;
+        stands = subst (λ (ids : SongIds). ShowsParts new m ids) (sym is) stands;
       },
     )

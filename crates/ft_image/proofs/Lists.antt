@@ -6,7 +6,7 @@ use Rattle.std.proofs.lemmas.Option.{slice_get_within, get_or_from_slice_get}
 use Rattle.std.proofs.lemmas.List.FromFn.{length-map-range_with_len, get_or-map-range_with_len}
 use Rattle.ft_segments.specs.Walk.{each_below}
 
--- what stands at a place of a list
+-- what is at a place of a list
 pub stored : {X : Type 0} (xs : List X) (k : ℕ) → k < length xs
     → (x : X) × (slice_get xs k ≡ Some x)
 stored [] k lt = absurd (omega arith)

@@ -12,7 +12,7 @@ use Rattle.ft_shared.specs.declared.law.WordStep.{WordStep}
 use Rattle.ft_shared.specs.declared.law.WordStep.TheVariants.{Load}
 use Rattle.ft_shared.specs.Layout.{segment_at}
 use Rattle.ft_shared.specs.Counts.{pin_of}
-use Rattle.ft_shared.specs.History.{placed_at, place_of, Agrees}
+use Rattle.ft_shared.specs.History.{placed_at, root_and_pool, Agrees}
 use Rattle.ft_shared.specs.Pass.{ReaderState, held_read, pin_read, note_word, note_pinned_word}
 use Rattle.ft_image.specs.Passes.{IsAgreed, MayShowHeld, MayShowPinned, after_reads, HasReadOn}
 
@@ -25,13 +25,13 @@ AgreesWithFewer = (history : List PlacedVersion) (notes : Notes) (more : List Wo
 abbrev pub HeldWord : Type 0
 HeldWord = (history : List PlacedVersion) (notes : Notes) (segment at word : ℕ) (taken : TakenVersion) (placed : PlacedVersion)
     → Agrees history (note_word notes segment at word) → notes.held ≡ Some taken
-    → placed_at history taken.version ≡ Some placed → IsOf (place_of placed) segment
+    → placed_at history taken.version ≡ Some placed → IsOf (root_and_pool placed) segment
     → word ≡ word_at placed.pool segment at
 
 abbrev pub PinnedWord : Type 0
 PinnedWord = (history : List PlacedVersion) (notes : Notes) (channel segment at word : ℕ) (pin : Pin) (placed : PlacedVersion)
     → Agrees history (note_pinned_word notes channel segment at word) → pin_of notes channel ≡ Some pin
-    → placed_at history pin.version ≡ Some placed → PinHolds (place_of placed) pin.root segment
+    → placed_at history pin.version ≡ Some placed → PinHolds (root_and_pool placed) pin.root segment
     → word ≡ word_at placed.pool segment at
 
 -- ---- what was shown before a read

@@ -19,7 +19,7 @@ use Rattle.ft_segments.specs.Packing.{digit, word_at, id_at}
 use Rattle.ft_segments.specs.Walk.{InstrumentIds, Placed, IsOf, sample_uses, sample_walk, instrument_walk, index_walk, bodies_in, bodies_of_index, samples_in}
 use Rattle.ft_image.specs.Values.{lengths_word, loop_word, tuning_word, frames_word}
 use Rattle.ft_image.specs.Shown.{Shows, ShowsSample}
-use Rattle.ft_image.specs.Read.{IsRootOf, sample_root_at, sample_at, sample_ids_in, root_in}
+use Rattle.ft_image.specs.Read.{IsRootOf, sample_root_at, sample_at, sample_ids_in, root_or_none}
 use Rattle.ft_image.proofs.Lists.{below_at}
 use Rattle.ft_image.proofs.Packed.{digit-packed}
 use Rattle.ft_image.proofs.Walked.{of_instrument, of_sample, sample_at_walk, sample_walk_root, sample_root_of, of_index, index_root_of, index_body_of, index_at_walk}
@@ -57,7 +57,7 @@ found p m (suc k) n root x shows at is =
     let named = sample_at_walk p.pool head n (omega arith) in
     let here : id ≡ root
     = same_Some id root
-    (sym (ap (λ (all : Option InstrumentIds). root_in (sample_ids_in all n)) has.named ∙ ap root_in named
+    (sym (ap (λ (all : Option InstrumentIds). root_or_none (sample_ids_in all n)) has.named ∙ ap root_or_none named
     ∙ ap (λ (r : ℕ). Some r) (sample_walk_root p.pool id))
     ∙ at) in
     let valid : IsValidInstrument y.0

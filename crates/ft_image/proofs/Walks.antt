@@ -12,7 +12,7 @@ use Rattle.ft_types.specs.Valid.{IsValid, IsValidPattern, IsValidInstrument, IsV
 use Rattle.ft_types.specs.Blocks.{pieces_of, bodies_of}
 use Rattle.ft_segments.specs.Packing.{digit, ids_word, word_at, id_at}
 use Rattle.ft_segments.specs.Walk.{PatternIds, IndexIds, SampleIds, InstrumentIds, SongIds, IsSound, each_below, pattern_uses, index_uses, sample_uses, instrument_uses, walk, pattern_walk, index_walk, sample_walk, instrument_walk, channels_in, patterns_in, instruments_in, rows_in, samples_in, bodies_in, bodies_of_index}
-use Rattle.ft_image.specs.Shown.{Stands, ShowsPattern, ShowsIndex, ShowsSample, ShowsInstrument}
+use Rattle.ft_image.specs.Shown.{ShowsParts, ShowsPattern, ShowsIndex, ShowsSample, ShowsInstrument}
 use Rattle.ft_image.proofs.Lists.{stored, part_of_sum}
 use Rattle.ft_image.proofs.Packed.{digit-packed}
 use Rattle.ft_image.proofs.Walked.{pattern_root_of, pattern_body_of, of_sample, instrument_root_of, sample_root_of, of_index, index_root_of, index_body_of}
@@ -155,7 +155,7 @@ no_instrument : InstrumentIds
 no_instrument = record { root = 0; samples = [] }
 
 pub walks : (pool : List ℕ) (m : Module) (ids : SongIds) (segments : ℕ) → IsValid m → segments ≤ 65536 → IsSound segments ids
-    → Stands pool m ids → walk pool ids.root ≡ ids
+    → ShowsParts pool m ids → walk pool ids.root ≡ ids
 unfolding walk
 walks pool m ids segments valid few sound stands =
     let head = head_back m (word_at pool ids.root 0) valid stands.root.head in

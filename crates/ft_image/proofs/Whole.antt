@@ -5,17 +5,17 @@ use Rattle.ft_types.specs.declared.module.Module.{Module}
 use Rattle.ft_types.specs.Valid.{IsValid}
 use Rattle.ft_types.specs.Blocks.{blocks_of}
 use Rattle.ft_segments.specs.Walk.{SongIds, IsSound, walk}
-use Rattle.ft_image.specs.Shown.{Shows, Stands}
+use Rattle.ft_image.specs.Shown.{Shows, ShowsParts}
 use Rattle.ft_image.specs.Laid.{song_laid}
 use Rattle.ft_image.proofs.Sums.{laid_sound}
 use Rattle.ft_image.proofs.Walks.{walks}
 
 pub laid_walks : (pool : List ℕ) (m : Module) → IsValid m → blocks_of m ≤ 65535
-    → Stands pool m (song_laid m) → walk pool 0 ≡ song_laid m
+    → ShowsParts pool m (song_laid m) → walk pool 0 ≡ song_laid m
 laid_walks pool m valid few stands = walks pool m (song_laid m) (blocks_of m) valid (omega arith) (laid_sound m) stands
 
 pub laid_shows : (pool : List ℕ) (m : Module) → IsValid m → blocks_of m ≤ 65535 → length pool ≡ 256 * blocks_of m
-    → Stands pool m (song_laid m) → Shows (record { root = 0; pool = pool }) m
+    → ShowsParts pool m (song_laid m) → Shows (record { root = 0; pool = pool }) m
 laid_shows pool m valid few long stands =
     let is : walk pool 0 ≡ song_laid m = laid_walks pool m valid few stands in
     let segments : blocks_of m ≡ length pool / 256 = omega arith in
@@ -23,7 +23,7 @@ laid_shows pool m valid few long stands =
       valid = valid;
       sound = subst (λ (ids : SongIds). IsSound (length pool / 256) ids) (sym is) (subst (λ (n : ℕ). IsSound n (song_laid m)) segments
           (laid_sound m));
-      stands = subst (λ (ids : SongIds). Stands pool m ids) (sym is) stands;
+      stands = subst (λ (ids : SongIds). ShowsParts pool m ids) (sym is) stands;
     }
 
 -- words that were written through a slice of all of them

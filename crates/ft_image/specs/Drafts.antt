@@ -20,8 +20,7 @@ IsFillable pass segment =
     × MayFill pass.register.sizes pass.account segment
     × AreShortPins pass.account
 
--- by the words last written: the segments of a version that stands in them, none of which may be
--- filled
+-- by the words last written: the segments of a version that is in them, none of which may be filled
 abbrev pub MayShowDrafted : WriterState → Placed → ℕ → Type 0
 MayShowDrafted pass placed segment =
     MayShowWritten pass placed segment

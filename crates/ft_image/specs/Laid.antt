@@ -22,7 +22,7 @@ pattern_laid channels from pattern = record {
   bodies = range_with_len (from + 1) (pieces_of (pattern.rows * channels) 256);
 }
 
--- index k of so many, which names the bodies behind the last index
+-- index k of that many, which names the bodies behind the last index
 abbrev pub index_laid : ℕ → ℕ → ℕ → ℕ → IndexIds
 index_laid from indexes bodies k = record {
   root = from + k;

@@ -5,13 +5,13 @@ use Rattle.ft_types.specs.declared.module.Module.{Module}
 use Rattle.ft_types.specs.Valid.{IsValid}
 use Rattle.ft_types.specs.Blocks.{blocks_of}
 use Rattle.ft_segments.specs.Walk.{SongIds, Placed, IsOf, IsSound, SameWords, ids_of, uses, walk}
-use Rattle.ft_image.specs.Shown.{Stands, Shows}
+use Rattle.ft_image.specs.Shown.{ShowsParts, Shows}
 
--- where words stand for a song by ids of so many segments, the walk from its root finds these ids
+-- where words stand for a song by ids of that many segments, the walk from its root finds these ids
 abbrev pub WalkIsThere : Type 0
 WalkIsThere =
     (pool : List ℕ) (song : Module) (ids : SongIds) (segments : ℕ)
-    → IsValid song → segments ≤ 65536 → IsSound segments ids → Stands pool song ids
+    → IsValid song → segments ≤ 65536 → IsSound segments ids → ShowsParts pool song ids
     → walk pool ids.root ≡ ids
 
 -- a version that shows a song shows it still where words change in other segments alone, or are

@@ -9,12 +9,12 @@ use Rattle.ft_shared.specs.declared.law.WordStep.{WordStep}
 use Rattle.ft_shared.specs.declared.law.Pin.{Pin}
 use Rattle.ft_shared.specs.declared.law.Notes.{Notes}
 use Rattle.ft_shared.specs.Counts.{pin_of}
-use Rattle.ft_shared.specs.History.{placed_at, place_of, Agrees}
+use Rattle.ft_shared.specs.History.{placed_at, root_and_pool, Agrees}
 use Rattle.ft_shared.specs.Pass.{ReaderState, WriterState}
 
 -- ---- what may be shown
 
--- all segments of a version are among so many
+-- all segments of a version are among that many
 abbrev pub IsAmong : ℕ → Placed → Type 0
 IsAmong segments placed = (segment : ℕ) → IsOf placed segment → segment < segments
 
@@ -24,7 +24,7 @@ pub record IsAgreed (notes : Notes) (number : ℕ) (placed : Placed) : Type 0 wh
   pub agrees : Agrees history notes
   pub version : PlacedVersion
   pub found : placed_at history number ≡ Some version
-  pub is : place_of version ≡ placed
+  pub is : root_and_pool version ≡ placed
 
 -- a history that agrees with the notes has this version as the one that is held
 pub record IsHeldVersion (notes : Notes) (placed : Placed) : Type 0 where
@@ -58,7 +58,7 @@ abbrev pub StandsWritten : WriterState → Placed → Type 0
 StandsWritten pass placed =
     (segment : ℕ) → IsOf placed segment → SameWords placed.pool pass.account.pool segment
 
--- by the words last written: the segments of a version that stands in them
+-- by the words last written: the segments of a version that is in them
 abbrev pub MayShowWritten : WriterState → Placed → ℕ → Type 0
 MayShowWritten pass placed segment =
     IsAmong pass.register.sizes.segments placed
@@ -66,7 +66,7 @@ MayShowWritten pass placed segment =
 
 -- ---- what a read leaves
 
--- notes with more reads and steps behind those so far
+-- notes with more reads and steps after those so far
 abbrev pub after_reads : Notes → List WordRead → List WordStep → Notes
 after_reads notes reads steps =
     record notes { reads = notes.reads ++ reads; steps = notes.steps ++ steps }

@@ -51,18 +51,18 @@ abbrev pub sample_ids_in : Option InstrumentIds → ℕ → Option SampleIds
 sample_ids_in None number = None
 sample_ids_in (Some ids) number = slice_get ids.samples number
 
-abbrev pub root_in : Option SampleIds → Option ℕ
-root_in None = None
-root_in (Some ids) = Some ids.root
+abbrev pub root_or_none : Option SampleIds → Option ℕ
+root_or_none None = None
+root_or_none (Some ids) = Some ids.root
 
 -- the root of a sample, by its instrument from 1 and its number from 0
 abbrev pub sample_root_at : Placed → ℕ → ℕ → Option ℕ
 sample_root_at placed instrument number =
-    root_in (sample_ids_in (instrument_ids_at (ids_of placed) instrument) number)
+    root_or_none (sample_ids_in (instrument_ids_at (ids_of placed) instrument) number)
 
 -- the number of the sample that the note map of an instrument gives a note, from 0
-abbrev pub number_at : Module → ℕ → ℕ → ℕ
-number_at song instrument note = number_in (instrument_at song instrument) note
+abbrev pub mapped_sample : Module → ℕ → ℕ → ℕ
+mapped_sample song instrument note = number_in (instrument_at song instrument) note
 
 abbrev pub sample_at : Module → ℕ → ℕ → Option Sample
 sample_at song instrument number = sample_in (instrument_at song instrument) number

@@ -11,7 +11,7 @@ use Rattle.ft_segments.specs.Packing.{bytes_word, ids_word, word_at}
 use Rattle.ft_segments.specs.Walk.{PatternIds, IndexIds, SampleIds, InstrumentIds, SongIds, Placed, IsSound, bodies_of_index, ids_of}
 use Rattle.ft_image.specs.Values.{head_word, counts_word, cell_word, count_bytes, envelope_bytes, points_word, lengths_word, loop_word, tuning_word, frames_word}
 
--- two lists are as long as each other, and what stands at one place of both is related
+-- two lists are as long as each other, and what is at one place of both is related
 pub record Pairwise {A B : Type 0} (Related : A → B → Type 0) (xs : List A) (ys : List B) : Type 0
   where
     pub count : length ys ≡ length xs
@@ -89,7 +89,7 @@ pub record ShowsSong (pool : List ℕ) (song : Module) (ids : SongIds) : Type 0 
   pub others : (k : ℕ) → 136 ≤ k → k < 256 → word_at pool ids.root k ≡ 0
 
 -- these segments of a pool have the words of the song
-pub record Stands (pool : List ℕ) (song : Module) (ids : SongIds) : Type 0 where
+pub record ShowsParts (pool : List ℕ) (song : Module) (ids : SongIds) : Type 0 where
   pub root : ShowsSong pool song ids
   pub patterns : Pairwise (ShowsPattern pool song.channels) song.patterns ids.patterns
   pub instruments : Pairwise (ShowsInstrument pool) song.instruments ids.instruments
@@ -104,4 +104,4 @@ no_version = record { root = 0; pool = [] }
 pub record Shows (placed : Placed) (song : Module) : Type 0 where
   pub valid : IsValid song
   pub sound : IsSound (length placed.pool / 256) (ids_of placed)
-  pub stands : Stands placed.pool song (ids_of placed)
+  pub stands : ShowsParts placed.pool song (ids_of placed)

@@ -69,16 +69,16 @@ envelope_bytes instrument =
 abbrev pub no_point : Point
 no_point = record { x = 0; y = 0 }
 
-abbrev pub point_at : List Point → ℕ → Point
-point_at points k = slice_index_or points k no_point
+abbrev pub listed_point : List Point → ℕ → Point
+listed_point points k = slice_index_or points k no_point
 
 -- two points of 16 bits: x, y, x, y
 unfoldable pub points_word : List Point → ℕ → ℕ
 points_word points k =
-    (point_at points (2 * k)).x
-    + 65536 * ((point_at points (2 * k)).y
-    + 65536 * ((point_at points (2 * k + 1)).x
-    + 65536 * (point_at points (2 * k + 1)).y))
+    (listed_point points (2 * k)).x
+    + 65536 * ((listed_point points (2 * k)).y
+    + 65536 * ((listed_point points (2 * k + 1)).x
+    + 65536 * (listed_point points (2 * k + 1)).y))
 
 -- ---- of a sample root
 

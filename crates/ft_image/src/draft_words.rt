@@ -16,9 +16,9 @@ use ft_segments::sample_stays;
 use ft_shared::{Shared, WriterPass};
 
 /// The words of a register as the writer last wrote them, to be filled for the next version. It
-/// shows each version that stands in them and has no segment that may be filled: the current one
-/// after a whole scan, and what was made of it so far. A segment may be filled that a whole scan did
-/// not find. A word of a segment that the pool hasn't is 0. What it reads isn't counted.
+/// shows each version that is in them and has no segment that may be filled: the current one after
+/// a whole scan, and what was made of it so far. A segment may be filled that a whole scan did not
+/// find. A word of a segment that the pool hasn't is 0. What it reads isn't counted.
 #[derive(Drop)]
 pub struct DraftWords<'a, 'b> {
     /// The register that the pass came from.

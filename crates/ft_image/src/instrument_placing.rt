@@ -79,7 +79,7 @@ fn place_instrument(words: &mut [u64], instrument: &Instrument, from: u16) -> u1
     next
 }
 
-/// Fills the segments of instruments, one after the other, and tells their roots. Answers the
+/// Fills the segments of instruments, one after the other, and answers their roots. Answers the
 /// segment behind them.
 pub fn place_instruments(
     words: &mut [u64],

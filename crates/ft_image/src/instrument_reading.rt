@@ -11,7 +11,7 @@ ghost use Rattle.ft_segments.specs.Packing.{bytes_word, word_at};
 ghost use Rattle.ft_segments.specs.Walk.{Placed};
 ghost use Rattle.ft_image.specs.Values.{count_bytes, envelope_bytes, points_word};
 ghost use Rattle.ft_image.specs.Shown.{Shows};
-ghost use Rattle.ft_image.specs.Read.{MayShowAll, HasInstrument, number_at, sample_at, sample_root_at};
+ghost use Rattle.ft_image.specs.Read.{MayShowAll, HasInstrument, mapped_sample, sample_at, sample_root_at};
 
 use crate::digits::{byte, quarter};
 use crate::ids::id;
@@ -147,10 +147,10 @@ pub fn sample_root<V: WordView>(view: &mut V, root: u16, instrument: u8, note: u
     requires { note < 96 }
     ensures narrows { (p : Placed) (s : ℕ) → V.may_show view.new p s → V.may_show view.old p s }
     ensures answer { (p : Placed) (m : Module) → MayShowAll V.may_show view.new p → Shows p m
-        → p.root ≡ root → result ≡ sample_root_at p instrument (number_at m instrument note) }
+        → p.root ≡ root → result ≡ sample_root_at p instrument (mapped_sample m instrument note) }
     ensures missing { (p : Placed) (m : Module) → MayShowAll V.may_show view.new p → Shows p m
         → p.root ≡ root
-        → is_some result ≡ is_some (sample_at m instrument (number_at m instrument note)) }
+        → is_some result ≡ is_some (sample_at m instrument (mapped_sample m instrument note)) }
     ensures work { (V.work view.old ≤ V.work view.new) × (V.work view.new ≤ V.work view.old + 5) }
     ensures same { V.same view.old view.new }
 {

@@ -10,7 +10,7 @@ ghost use Rattle.ft_image.specs.Read.{IsRootOf};
 ghost use Rattle.ft_image.specs.Shown.{Shows};
 
 /// Where words stand for a song by some ids, the walk from its root finds these ids.
-pub fn walk_is_there()
+pub fn walk_finds_the_ids()
     ensures { WalkIsThere }
 {}
 

@@ -30,7 +30,9 @@ pub use filling::BlankWords;
 pub use image::{Image, place};
 pub use instrument_placing::InstrumentRoot;
 pub use instrument_reading::{envelope, sample_root, shape};
-pub use laws::{a_shown_sample_is_of_its_version, shown_has_blocks, shown_stays, walk_is_there};
+pub use laws::{
+    a_shown_sample_is_of_its_version, shown_has_blocks, shown_stays, walk_finds_the_ids,
+};
 pub use pass_laws::{
     a_held_version_may_be_shown, a_history_agreed_before, a_pass_reads_on,
     a_pinned_sample_may_be_shown, a_sound_version_is_among, a_writer_steps_on,

@@ -10,7 +10,7 @@ ghost use Rattle.ft_shared.specs.declared.law.PlacedVersion.{PlacedVersion};
 ghost use Rattle.ft_shared.specs.declared.law.TakenVersion.{TakenVersion};
 ghost use Rattle.ft_shared.specs.Account.{after_fill};
 ghost use Rattle.ft_shared.specs.Counts.{pin_of};
-ghost use Rattle.ft_shared.specs.History.{placed_at, place_of, Agrees, AreSound};
+ghost use Rattle.ft_shared.specs.History.{placed_at, root_and_pool, Agrees, AreSound};
 ghost use Rattle.ft_shared.specs.Pass.{ReaderState, WriterState};
 ghost use Rattle.ft_image.specs.Shown.{Shows};
 ghost use Rattle.ft_image.specs.Read.{MayShowAll, MayShowSample, IsRootOf};
@@ -31,7 +31,7 @@ pub fn a_history_agreed_before()
 pub fn a_sound_version_is_among()
     ensures { (history : List PlacedVersion) (segments number : ℕ) (placed : PlacedVersion)
         → AreSound segments history → placed_at history number ≡ Some placed
-        → IsAmong segments (place_of placed) }
+        → IsAmong segments (root_and_pool placed) }
 {
     each_version_is_sound();
 }
@@ -60,8 +60,8 @@ pub fn a_held_version_may_be_shown()
     ensures all { (pass : ReaderState) (history : List PlacedVersion) (taken : TakenVersion)
         (placed : PlacedVersion) → Agrees history pass.notes → pass.notes.held ≡ Some taken
         → placed_at history taken.version ≡ Some placed
-        → IsAmong pass.register.sizes.segments (place_of placed)
-        → MayShowAll MayShowHeld pass (place_of placed) }
+        → IsAmong pass.register.sizes.segments (root_and_pool placed)
+        → MayShowAll MayShowHeld pass (root_and_pool placed) }
     ensures root { (pass : ReaderState) (history : List PlacedVersion) (taken : TakenVersion)
         (placed : PlacedVersion) → Agrees history pass.notes → pass.notes.held ≡ Some taken
         → placed_at history taken.version ≡ Some placed → placed.root ≡ taken.root }
@@ -74,16 +74,15 @@ pub fn a_pinned_sample_may_be_shown()
         (placed : PlacedVersion) (song : Module) (sample : Sample)
         → Agrees history pass.notes → pin_of pass.notes channel ≡ Some pin
         → placed_at history pin.version ≡ Some placed
-        → IsAmong pass.register.sizes.segments (place_of placed)
-        → Shows (place_of placed) song → IsRootOf (place_of placed) song pin.root sample
-        → MayShowSample (λ view. MayShowPinned view channel) pass (place_of placed) pin.root }
+        → IsAmong pass.register.sizes.segments (root_and_pool placed)
+        → Shows (root_and_pool placed) song → IsRootOf (root_and_pool placed) song pin.root sample
+        → MayShowSample (λ view. MayShowPinned view channel) pass (root_and_pool placed) pin.root }
 {
     a_pin_holds_its_sample();
 }
 
-/// The view of the writer's pass may show each version that stands in the words last written. A
-/// version of just these words stands in them, and stands still when a segment of no part in it is
-/// filled.
+/// The view of the writer's pass may show each version that is in the words last written. A version
+/// of just these words is in them, and still is when a segment of no part in it is filled.
 pub fn a_written_version_may_be_shown()
     ensures all { (pass : WriterState) (placed : Placed)
         → IsAmong pass.register.sizes.segments placed → StandsWritten pass placed

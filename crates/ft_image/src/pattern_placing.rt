@@ -64,7 +64,7 @@ impl<'a> Content for CellsBody<'a> {
     }
 }
 
-/// Fills so many bodies with cells, one segment after the other.
+/// Fills that many bodies with cells, one segment after the other.
 fn place_cells(words: &mut [u64], cells: &[Cell], from: u16, count: u16)
     requires few { count ≤ 32 }
     requires within { from + count ≤ 65535 }
@@ -106,8 +106,8 @@ fn place_pattern(words: &mut [u64], pattern: &Pattern, channels: u8, from: u16) 
     from + 1 + count
 }
 
-/// Fills the segments of patterns, one after the other, and tells their roots. Answers the segment
-/// behind them.
+/// Fills the segments of patterns, one after the other, and answers their roots. Answers the
+/// segment behind them.
 pub fn place_patterns(
     words: &mut [u64],
     patterns: &[Pattern],

@@ -84,7 +84,7 @@ impl<'a> Content for FramesBody<'a> {
     }
 }
 
-/// The bodies that an index of a number names, of so many.
+/// The bodies that an index of a number names, of that many.
 fn bodies_named(bodies: u16, index: u16) -> u16
     requires bodies { bodies ≤ 3840 }
     requires index { index < pieces_of bodies 1024 }
@@ -93,7 +93,7 @@ fn bodies_named(bodies: u16, index: u16) -> u16
     (bodies - 1024 * index).min(1024)
 }
 
-/// Fills so many indexes, one segment after the other, and lets them name so many bodies behind
+/// Fills that many indexes, one segment after the other, and lets them name that many bodies behind
 /// them.
 fn place_indexes(words: &mut [u64], from: u16, indexes: u16, bodies: u16)
     requires bodies { bodies ≤ 3840 }
@@ -113,7 +113,7 @@ fn place_indexes(words: &mut [u64], from: u16, indexes: u16, bodies: u16)
     }
 }
 
-/// Fills so many bodies with frames, one segment after the other.
+/// Fills that many bodies with frames, one segment after the other.
 fn place_frames(words: &mut [u64], frames: &[i16], from: u16, count: u16)
     requires few { count ≤ 3840 }
     requires within { from + count ≤ 65535 }
@@ -155,7 +155,7 @@ fn place_sample(words: &mut [u64], sample: &Sample, from: u16) -> u16
     from + 1 + indexes + bodies
 }
 
-/// Fills the segments of samples, one after the other, and tells their roots. Answers the segment
+/// Fills the segments of samples, one after the other, and answers their roots. Answers the segment
 /// behind them.
 pub fn place_samples(
     words: &mut [u64],

@@ -49,7 +49,7 @@ pub fn sample_head<V: WordView>(view: &mut V, sample: u16) -> SampleHead
     sample_head_from(lengths, loops, tuning)
 }
 
-/// The segment of the body of the sample of a root in which the frame at a place stands. Nothing is
+/// The segment of the body of the sample of a root in which the frame at a place is. Nothing is
 /// said of a place that isn't below the frames.
 pub fn body_of_frame<V: WordView>(view: &mut V, sample: u16, place: u32) -> u16
     ensures narrows { (p : Placed) (s : ℕ) → V.may_show view.new p s → V.may_show view.old p s }

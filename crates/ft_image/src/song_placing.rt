@@ -3,7 +3,7 @@
 ghost use Rattle.std.specs.Prelude.{◌≡◌, ◌≤◌, ◌*◌, ℕ, List, length};
 ghost use Rattle.ft_types.specs.Valid.{IsValid};
 ghost use Rattle.ft_types.specs.Blocks.{blocks_of};
-ghost use Rattle.ft_image.specs.Shown.{Stands};
+ghost use Rattle.ft_image.specs.Shown.{ShowsParts};
 ghost use Rattle.ft_image.specs.Laid.{song_laid, song_root_word};
 
 use crate::fill_view::Content;
@@ -64,7 +64,7 @@ pub fn place_song(words: &mut [u64], song: &Module)
     requires valid { IsValid song.now }
     requires within { blocks_of song.now ≤ 65535 }
     requires room { length words.old ≡ 256 * blocks_of song.now }
-    ensures { Stands words.new song.now (song_laid song.now) }
+    ensures { ShowsParts words.new song.now (song_laid song.now) }
 {
     let mut patterns = ArrayVec::new();
     let mut instruments = ArrayVec::new();

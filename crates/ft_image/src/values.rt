@@ -74,7 +74,7 @@ pub fn ids_word(ids: &[u16], k: u8) -> u64
     four(a, b, c, d)
 }
 
-/// An id of so many that follow each other; 0 past their end.
+/// An id of that many that follow each other; 0 past their end.
 fn run_id(first: u16, count: u16, at: u16) -> u16
     requires { first + count ≤ 65536 }
     ensures { result ≡ slice_index (range_with_len first count) at }

@@ -10,9 +10,9 @@ ghost use Rattle.ft_image.specs.PassLaws.{steps_nothing, steps_through};
 use crate::view::WordView;
 use ft_shared::{Shared, WriterPass};
 
-/// The words of a register as the writer last wrote them. It shows each version that stands in
-/// them, as the current one does until one of its segments is filled. A word of a segment that the
-/// pool hasn't is 0. What it reads isn't counted.
+/// The words of a register as the writer last wrote them. It shows each version that is in them, as
+/// the current one is until one of its segments is filled. A word of a segment that the pool hasn't
+/// is 0. What it reads isn't counted.
 #[derive(Drop)]
 pub struct WriterWords<'a, 'b> {
     /// The register that the pass came from.

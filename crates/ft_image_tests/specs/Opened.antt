@@ -5,7 +5,8 @@ use Rattle.ft_shared.specs.Pass.{RegisterId, ReaderState, WriterState, fresh_pas
 
 -- one reader of one channel; the pool is that of the song, whose root is segment 0; nothing was
 -- done yet
-pub record IsOpened (register : RegisterId) (writer : WriterState) (reader : ReaderState) : Type 0
+pub record IsTestRegister (register : RegisterId) (writer : WriterState)
+    (reader : ReaderState) : Type 0
   where
     pub sizes : (register.sizes.readers ≡ 1) × (register.sizes.channels ≡ 1)
     pub came : writer.register ≡ register

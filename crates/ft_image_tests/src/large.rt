@@ -15,7 +15,7 @@ static SAMPLES: [(u32, usize, u32, i16); 6] = [
     (1_049_600, 1_032, 1_023, -77),
 ];
 
-/// The image of a song whose sample has so many frames: from -100 up to 99, again and again.
+/// The image of a song whose sample has that many frames: from -100 up to 99, again and again.
 fn large_image(alloc: Global, frames: u32) -> Result<Option<Image>, Fail> {
     let mut all = Vec::new(alloc);
     for place in 0..frames {
@@ -25,8 +25,8 @@ fn large_image(alloc: Global, frames: u32) -> Result<Option<Image>, Fail> {
     Ok(image_of(alloc, &song))
 }
 
-/// Whether the words are those of so many segments, and the sample of root 4 has so many frames and
-/// such a frame.
+/// Whether the words are those of that many segments, and the sample of root 4 has that many frames
+/// and such a frame.
 fn is_right(words: &[u64], row: (u32, usize, u32, i16)) -> bool {
     let mut view = SliceWords { words };
     words.len() % 256 == 0

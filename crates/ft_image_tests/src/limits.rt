@@ -12,7 +12,7 @@ use ft_types::{
 use std::alloc::Global;
 use std::test::Fail;
 
-/// The cell of a number in a pattern: it says where it stands.
+/// The cell of a number in a pattern: it says where it is.
 fn cell_of(pattern: u8, number: u16) -> Cell {
     Cell {
         note: (number % 97) as u8,

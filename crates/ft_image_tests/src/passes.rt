@@ -4,7 +4,7 @@ ghost use Rattle.std.specs.Prelude.{◌≡◌, ◌<◌, ℕ, None, IfSome, IsSom
 ghost use Rattle.ft_segments.specs.Walk.{IsSound, walk};
 ghost use Rattle.ft_shared.specs.Account.{SlotsAreMet, IsWhole};
 ghost use Rattle.ft_shared.specs.Counts.{pin_of};
-ghost use Rattle.ft_image_tests.specs.Opened.{IsOpened};
+ghost use Rattle.ft_image_tests.specs.Opened.{IsTestRegister};
 
 use crate::placed::song_of;
 use crate::views::{held_cell, held_frame, held_rows, held_word, pinned_frame, written_cell};
@@ -19,7 +19,7 @@ use std::test::Fail;
 
 /// A register that has the image of a song and no more, with its writer and its one reader.
 fn opened(alloc: Global, song: &Module) -> Option<(Shared, WriterPass, ReaderPass)>
-    ensures { IfSome result (λ made. IsOpened made.0 made.1 made.2) }
+    ensures { IfSome result (λ made. IsTestRegister made.0 made.1 made.2) }
 {
     if !valid(song) || blocks(song) > 65_534 {
         return None;
@@ -150,7 +150,7 @@ fn read_song<L: Ledger>(
     reader: &mut ReaderPass,
 ) -> bool
     requires blank { (blank.name ≡ L.name) × (blank.parts ≡ L.parts) × (0 < L.parts) }
-    requires opened { IsOpened shared.now writer.old reader.old }
+    requires opened { IsTestRegister shared.now writer.old reader.old }
 {
     if shared.segments() < 7 {
         return false;

@@ -39,7 +39,7 @@ static WORDS: [(usize, usize, u64); 25] = [
     (6, 100, 0),
 ];
 
-/// Where ids stand in those segments.
+/// Where ids are in those segments.
 static IDS: [(usize, usize); 6] = [(0, 40), (0, 104), (1, 1), (3, 30), (4, 16), (5, 0)];
 
 /// The words of a song of 400 frames, which go 64, -64, 64, 64 again and again.

@@ -10,7 +10,7 @@ ghost use Rattle.ft_shared.specs.declared.law.Pin.{Pin};
 ghost use Rattle.ft_shared.specs.declared.law.PlacedVersion.{PlacedVersion};
 ghost use Rattle.ft_shared.specs.declared.law.TakenVersion.{TakenVersion};
 ghost use Rattle.ft_shared.specs.Counts.{pin_of};
-ghost use Rattle.ft_shared.specs.History.{placed_at, place_of, Agrees};
+ghost use Rattle.ft_shared.specs.History.{placed_at, root_and_pool, Agrees};
 ghost use Rattle.ft_image.specs.Shown.{Shows};
 ghost use Rattle.ft_image.specs.Read.{IsRootOf};
 ghost use Rattle.ft_image.specs.Passes.{IsAmong, StandsWritten, HasReadOn, HasMadeSteps};
@@ -36,7 +36,8 @@ pub fn held_rows<L: Ledger>(
     ensures rows { (history : List PlacedVersion) (taken : TakenVersion) (placed : PlacedVersion)
         (song : Module) → Agrees history pass.new.notes → pass.new.notes.held ≡ Some taken
         → taken.root ≡ root → placed_at history taken.version ≡ Some placed
-        → IsAmong shared.now.sizes.segments (place_of placed) → Shows (place_of placed) song
+        → IsAmong shared.now.sizes.segments (root_and_pool placed)
+        → Shows (root_and_pool placed) song
         → result ≡ rows_at song pattern }
     ensures steps { steps.new ≤ steps.old + work_of.rows_bound }
     ensures on { HasReadOn pass.old pass.new }
@@ -137,8 +138,9 @@ pub fn pinned_frame<L: Ledger>(
         (song : Module) (x : Sample) → Agrees history pass.new.notes
         → pin_of pass.new.notes channel ≡ Some pin → pin.root ≡ sample
         → placed_at history pin.version ≡ Some placed
-        → IsAmong shared.now.sizes.segments (place_of placed) → Shows (place_of placed) song
-        → IsRootOf (place_of placed) song pin.root x
+        → IsAmong shared.now.sizes.segments (root_and_pool placed)
+        → Shows (root_and_pool placed) song
+        → IsRootOf (root_and_pool placed) song pin.root x
         → place < length x.frames → result ≡ slice_index_or x.frames place (pos 0) }
     ensures steps { steps.new ≤ steps.old + work_of.frame_bound }
     ensures on { HasReadOn pass.old pass.new }
@@ -156,7 +158,7 @@ pub fn pinned_frame<L: Ledger>(
     frame(&mut view, sample, place)
 }
 
-/// A cell of a version that stands in the words last written, by its root.
+/// A cell of a version that is in the words last written, by its root.
 pub fn written_cell(shared: &Shared, pass: &mut WriterPass, root: u16, row: u16) -> Cell
     requires same { pass.old.register ≡ shared.now }
     ensures cell { (placed : Placed) (song : Module) → placed.root ≡ root

@@ -15,7 +15,7 @@ end_is head looped =
 mod_on : (n k t : ℕ) → n % t + k < t → (n + k) % t ≡ n % t + k
 mod_on n k t lt = sym (mod-add-mod n t k) ∙ mod-eq_of_lt lt
 
--- the frame so many steps into a turn
+-- the frame that many steps into a turn
 abbrev in_turn : SampleHead → ℕ → Option ℕ
 in_turn head steps = Some (head.loop_start + reflected head steps)
 
@@ -33,7 +33,7 @@ turned head i looped past =
     ∙ ap (λ (b : Bool). if b then None else in_turn head ((i - head.loop_start) % loop_turn head))
     (ne_eqb head.loop_kind 0 (λ e. absurd (omega (arith, e, looped))))
 
--- a piece of a turn, from so many steps into it on
+-- a piece of a turn, from that many steps into it on
 in_piece : (head : SampleHead) (at k : ℕ) → 1 ≤ head.loop_kind → end_of head ≤ at → head.loop_start ≤ at
     → (at - head.loop_start) % loop_turn head + k < loop_turn head
     → place_of head (at + k) ≡ in_turn head ((at - head.loop_start) % loop_turn head + k)

@@ -38,7 +38,7 @@ fn add_voices<V: SongView>(
     requires room { length reached.old ≡ 1024 }
     requires left { (k : ℕ) → k < length left.old → get_or left.old k (pos 0) ≡ pos 0 }
     requires right { (k : ℕ) → k < length left.old → get_or right.old k (pos 0) ≡ pos 0 }
-    ensures sums { mixing.Tells V.shows V.shown view.old view.new (λ shown. mixing.AreSums first
+    ensures sums { mixing.OnlyAsks V.shows V.shown view.old view.new (λ shown. mixing.AreSums first
         shown.kept voices.now (length left.old) left.new right.new) }
     ensures many { length left.new ≡ length left.old }
     ensures both { length right.new ≡ length right.old }
@@ -113,7 +113,7 @@ fn fill_block<V: SongView>(
     requires frames { first + length left.old ≤ 3751 }
     requires reached { length reached.old ≡ 1024 }
     requires room { 2 * (first + length left.old) ≤ length out.old }
-    ensures frames { mixing.Tells V.shows V.shown view.old view.new (λ shown.
+    ensures frames { mixing.OnlyAsks V.shows V.shown view.old view.new (λ shown.
         (k : ℕ) → k < length left.old → mixing.IsFrame
         (sound.voices_sum (sound.left_of (first + k)) shown.kept voices.now)
         (sound.voices_sum (sound.right_of (first + k)) shown.kept voices.now) (first + k) out.new) }
@@ -134,7 +134,7 @@ fn fill_block<V: SongView>(
     write(left, right, first as usize, out);
 }
 
-/// The frames of the block that begins at `first`, of a tick of so many.
+/// The frames of the block that begins at `first`, of a tick of that many.
 fn block_len(first: usize, frames: usize) -> usize
     requires { first < frames }
     ensures some { 1 ≤ result }
@@ -152,7 +152,7 @@ pub fn fill<V: SongView>(view: &mut V, voices: &[Voice], out: &mut [i16])
     requires few { length voices.now ≤ 32 }
     requires even { length out.old % 2 ≡ 0 }
     requires room { length out.old ≤ 7502 }
-    ensures sound { mixing.Tells V.shows V.shown view.old view.new (λ shown. out.new
+    ensures sound { mixing.OnlyAsks V.shows V.shown view.old view.new (λ shown. out.new
         ≡ sound.sound_of_voices shown.kept voices.now (length out.old / 2)) }
     ensures many { length out.new ≡ length out.old }
     ensures holds { V.holds view.new ≡ V.holds view.old }

@@ -24,7 +24,7 @@ pub fn turn(head: &SampleHead) -> u32
     head.loop_len
 }
 
-/// The frame of a loop, from its first, so many steps into a turn.
+/// The frame of a loop, from its first, that many steps into a turn.
 fn reflected(head: &SampleHead, steps: u32) -> u32
     requires few { head.now.frames ≤ 3932160 }
     requires looping { IsValidLoop head.now.loop_kind head.now.loop_start head.now.loop_len
@@ -88,7 +88,7 @@ pub fn value_of<V: SongView>(view: &mut V, channel: u8, head: &SampleHead, i: u3
     requires head { IsValidHead head.now }
     requires channel { channel < length (V.holds view.old) }
     requires kept { V.keeps view.old channel head.now }
-    ensures value { mixing.Tells V.shows V.shown view.old view.new (λ shown. result
+    ensures value { mixing.OnlyAsks V.shows V.shown view.old view.new (λ shown. result
         ≡ sound.value_in head.now (get_or shown.kept channel None) (sound.place_of head.now i)) }
     ensures holds { V.holds view.new ≡ V.holds view.old }
     ensures keeps { (c : ℕ) (h : SampleHead) → V.keeps view.old c h → V.keeps view.new c h }

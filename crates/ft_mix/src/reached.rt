@@ -26,7 +26,7 @@ fn amplify(wide: bool, frames: &mut [i16])
     }
 }
 
-/// The values of frames that stand in a row, from a place of the sample of a channel's voice on.
+/// The values of frames in a row, from a place of the sample of a channel's voice on.
 fn read_up<V: SongView>(
     view: &mut V,
     channel: u8,
@@ -38,7 +38,7 @@ fn read_up<V: SongView>(
     requires kept { V.keeps view.old channel head.now }
     requires some { 1 ≤ length values.old }
     requires within { place + length values.old ≤ head.now.frames }
-    ensures values { mixing.Tells V.shows V.shown view.old view.new (λ shown.
+    ensures values { mixing.OnlyAsks V.shows V.shown view.old view.new (λ shown.
         (k : ℕ) → k < length values.old → get_or values.new k (pos 0) ≡ sound.value_in head.now
         (get_or shown.kept channel None) (Some (place + k))) }
     ensures range { mixing.Fit16 (length values.old) values.new }
@@ -69,7 +69,7 @@ fn read_down<V: SongView>(
     requires within { place < head.now.frames }
     requires room { length values.old ≤ place + 1 }
     requires bound { place < 2 ^ 24 }
-    ensures values { mixing.Tells V.shows V.shown view.old view.new (λ shown.
+    ensures values { mixing.OnlyAsks V.shows V.shown view.old view.new (λ shown.
         (k : ℕ) → k < length values.old → get_or values.new k (pos 0) ≡ sound.value_in head.now
         (get_or shown.kept channel None) (Some (place - k))) }
     ensures range { mixing.Fit16 (length values.old) values.new }
@@ -113,7 +113,7 @@ fn read_to_end<V: SongView>(
     requires head { IsValidHead head.now }
     requires straight { head.now.loop_kind ≡ 0 }
     requires some { 1 ≤ length values.old }
-    ensures values { mixing.Tells V.shows V.shown view.old view.new (λ shown. mixing.AreReached
+    ensures values { mixing.OnlyAsks V.shows V.shown view.old view.new (λ shown. mixing.AreReached
         head.now (get_or shown.kept channel None) at (length values.old) values.new) }
     ensures range { mixing.Fit16 (length values.old) values.new }
     ensures many { length values.new ≡ length values.old }
@@ -150,9 +150,9 @@ fn read_part<V: SongView>(
     requires up { piece.down ≡ false → piece.place + piece.frames ≤ head.now.frames }
     requires down { piece.down ≡ true
         → (piece.place < head.now.frames) × (piece.frames ≤ piece.place + 1) }
-    ensures values { mixing.Tells V.shows V.shown view.old view.new (λ shown.
+    ensures values { mixing.OnlyAsks V.shows V.shown view.old view.new (λ shown.
         (k : ℕ) → k < length values.old → get_or values.new k (pos 0) ≡ sound.value_in head.now
-        (get_or shown.kept channel None) (Some (mixing.place_in piece k))) }
+        (get_or shown.kept channel None) (Some (mixing.place_in_piece piece k))) }
     ensures range { mixing.Fit16 (length values.old) values.new }
     ensures many { length values.new ≡ length values.old }
     ensures holds { V.holds view.new ≡ V.holds view.old }
@@ -183,7 +183,7 @@ pub fn read_pieces<V: SongView>(
     requires head { IsValidHead head.now }
     requires some { 1 ≤ length values.old }
     requires pieces { mixing.ArePiecesOf head.now at (length values.old) pieces }
-    ensures values { mixing.Tells V.shows V.shown view.old view.new (λ shown. mixing.AreReached
+    ensures values { mixing.OnlyAsks V.shows V.shown view.old view.new (λ shown. mixing.AreReached
         head.now (get_or shown.kept channel None) at (length values.old) values.new) }
     ensures range { mixing.Fit16 (length values.old) values.new }
     ensures many { length values.new ≡ length values.old }
@@ -202,7 +202,7 @@ pub fn read_pieces<V: SongView>(
     read_part(view, channel, head, pieces.second, &mut values[front..]);
 }
 
-/// The first values from `at` on of a looped sample, as far as its frames stand in a row. It answers
+/// The first values from `at` on of a looped sample, as far as its frames are in a row. It answers
 /// how many they are.
 fn read_piece<V: SongView>(
     view: &mut V,
@@ -218,7 +218,7 @@ fn read_piece<V: SongView>(
     requires some { 1 ≤ length values.old }
     ensures some { 1 ≤ result }
     ensures few { result ≤ length values.old }
-    ensures values { mixing.Tells V.shows V.shown view.old view.new (λ shown. mixing.AreReached
+    ensures values { mixing.OnlyAsks V.shows V.shown view.old view.new (λ shown. mixing.AreReached
         head.now (get_or shown.kept channel None) at result values.new) }
     ensures range { mixing.Fit16 result values.new }
     ensures many { length values.new ≡ length values.old }
@@ -248,7 +248,7 @@ fn read_turns<V: SongView>(
     requires looped { 1 ≤ head.now.loop_kind }
     requires at { at < 2 ^ 24 }
     requires few { length values.old < 2 ^ 24 }
-    ensures values { mixing.Tells V.shows V.shown view.old view.new (λ shown. mixing.AreReached
+    ensures values { mixing.OnlyAsks V.shows V.shown view.old view.new (λ shown. mixing.AreReached
         head.now (get_or shown.kept channel None) at (length values.old) values.new) }
     ensures range { mixing.Fit16 (length values.old) values.new }
     ensures many { length values.new ≡ length values.old }
@@ -279,7 +279,7 @@ pub fn read_reached<V: SongView>(
     requires at { at < 2 ^ 24 }
     requires some { 1 ≤ length values.old }
     requires few { length values.old < 2 ^ 24 }
-    ensures values { mixing.Tells V.shows V.shown view.old view.new (λ shown. mixing.AreReached
+    ensures values { mixing.OnlyAsks V.shows V.shown view.old view.new (λ shown. mixing.AreReached
         head.now (get_or shown.kept channel None) at (length values.old) values.new) }
     ensures range { mixing.Fit16 (length values.old) values.new }
     ensures many { length values.new ≡ length values.old }

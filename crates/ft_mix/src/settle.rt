@@ -10,7 +10,7 @@ use crate::reach::turn;
 use arrayvec::ArrayVec;
 use ft_types::{SampleHead, SongView, Voice};
 
-/// Where a voice has come to after so many frames.
+/// Where a voice has come to after that many frames.
 fn reached(voice: Voice, frames: u32) -> u64
     requires range { IsVoiceInRange voice }
     requires few { frames ≤ 3751 }
@@ -38,7 +38,7 @@ fn brought_back(head: &SampleHead, position: u64) -> u64
     u64::from(back) * (1 << 32) + position % (1 << 32)
 }
 
-/// Whether a voice has ended after so many frames.
+/// Whether a voice has ended after that many frames.
 fn is_ended(voice: Voice, frames: u32) -> bool
     requires range { IsVoiceInRange voice }
     requires few { frames ≤ 3751 }
@@ -73,7 +73,7 @@ fn settle_voice<V: SongView>(view: &mut V, voice: Voice, frames: u32, on: &mut A
     on.push(Voice { pos, ..voice });
 }
 
-/// The voices that go on after so many frames, in their order. The channels of the others keep
+/// The voices that go on after that many frames, in their order. The channels of the others keep
 /// nothing any more.
 pub fn settle<V: SongView>(view: &mut V, voices: &[Voice], frames: u32) -> ArrayVec<Voice, 32>
     requires voices { All (mixing.IsMixed (V.keeps view.old) (length (V.holds view.old)))

@@ -114,7 +114,7 @@ fn read_walk<V: SongView>(
     requires some { 1 ≤ length values.old }
     requires few { length values.old ≤ 512 }
     requires room { length reached.old ≡ 1024 }
-    ensures values { mixing.Tells V.shows V.shown view.old view.new (λ shown. mixing.AreValues
+    ensures values { mixing.OnlyAsks V.shows V.shown view.old view.new (λ shown. mixing.AreValues
         voice.head (get_or shown.kept voice.channel None) position voice.step
         (length values.old) values.new) }
     ensures range { mixing.Fit16 (length values.old) values.new }
@@ -156,7 +156,7 @@ fn read_ahead<V: SongView>(
     requires at { at < 2 ^ 24 }
     requires some { 1 ≤ length reached.old }
     requires few { length reached.old < 2 ^ 24 }
-    ensures values { result ≡ true → mixing.Tells V.shows V.shown view.old view.new (λ shown.
+    ensures values { result ≡ true → mixing.OnlyAsks V.shows V.shown view.old view.new (λ shown.
         mixing.AreReached head.now (get_or shown.kept channel None) at (length reached.old)
         reached.new) }
     ensures range { result ≡ true → mixing.Fit16 (length reached.old) reached.new }
@@ -190,7 +190,7 @@ fn read_far<V: SongView>(view: &mut V, voice: Voice, position: u64, values: &mut
     requires step { voice.step ≤ 2 ^ 36 }
     requires some { 8 ≤ length values.old }
     requires few { length values.old ≤ 512 }
-    ensures values { mixing.Tells V.shows V.shown view.old view.new (λ shown. mixing.AreValues
+    ensures values { mixing.OnlyAsks V.shows V.shown view.old view.new (λ shown. mixing.AreValues
         voice.head (get_or shown.kept voice.channel None) position voice.step
         (length values.old) values.new) }
     ensures range { mixing.Fit16 (length values.old) values.new }
@@ -219,7 +219,7 @@ fn read_value<V: SongView>(view: &mut V, channel: u8, head: &SampleHead, positio
     requires kept { V.keeps view.old channel head.now }
     requires head { IsValidHead head.now }
     requires position { position < 2 ^ 56 }
-    ensures value { mixing.Tells V.shows V.shown view.old view.new (λ shown. result
+    ensures value { mixing.OnlyAsks V.shows V.shown view.old view.new (λ shown. result
         ≡ sound.value_at head.now (get_or shown.kept channel None) position) }
     ensures range { FitsSigned w16 result }
     ensures holds { V.holds view.new ≡ V.holds view.old }
@@ -240,7 +240,7 @@ fn read_leaps<V: SongView>(view: &mut V, voice: Voice, position: u64, values: &m
     requires kept { V.keeps view.old voice.channel voice.head }
     requires head { IsValidHead voice.head }
     requires position { position + length values.old * voice.step < 2 ^ 56 }
-    ensures values { mixing.Tells V.shows V.shown view.old view.new (λ shown. mixing.AreValues
+    ensures values { mixing.OnlyAsks V.shows V.shown view.old view.new (λ shown. mixing.AreValues
         voice.head (get_or shown.kept voice.channel None) position voice.step
         (length values.old) values.new) }
     ensures range { mixing.Fit16 (length values.old) values.new }
@@ -272,7 +272,7 @@ pub fn read_values<V: SongView>(
     requires few { length values.old ≤ 512 }
     requires frames { first + length values.old ≤ 3751 }
     requires room { length reached.old ≡ 1024 }
-    ensures values { mixing.Tells V.shows V.shown view.old view.new (λ shown. mixing.AreValues
+    ensures values { mixing.OnlyAsks V.shows V.shown view.old view.new (λ shown. mixing.AreValues
         voice.head (get_or shown.kept voice.channel None) (voice.pos + first * voice.step)
         voice.step (length values.old) values.new) }
     ensures range { mixing.Fit16 (length values.old) values.new }

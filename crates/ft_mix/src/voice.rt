@@ -30,7 +30,7 @@ pub fn add_voice<V: SongView>(
     requires room { length reached.old ≡ 1024 }
     requires left { mixing.AreLoud 31 (length left.old) left.old }
     requires right { mixing.AreLoud 31 (length left.old) right.old }
-    ensures sums { mixing.Tells V.shows V.shown view.old view.new (λ shown.
+    ensures sums { mixing.OnlyAsks V.shows V.shown view.old view.new (λ shown.
         (k : ℕ) → k < length left.old
         → (get_or left.new k (pos 0) ≡ (get_or left.old k (pos 0)
         +ℤ sound.left_of (first + k) (get_or shown.kept voice.channel None) voice))

@@ -28,7 +28,7 @@ static MIXED: [i16; 40] = [
     -2859, -1430, 182, 91, 3263, 1631, 1166, 583,
 ];
 
-/// What stands where nothing was written.
+/// What is there where nothing was written.
 const LEFT: i16 = 7_777;
 
 /// The head of a sample that ends with its loop.
@@ -66,15 +66,15 @@ fn loops_have_their_places(rt: HostRuntime) -> Result<(), Fail> {
     Ok(())
 }
 
-/// Where the voice is after so many frames, in half frames of its sample of 16,384: its loop is the
-/// whole of it.
+/// Where the voice is after that many frames, in half frames of its sample of 16,384: its loop is
+/// the whole of it.
 fn halves_after(frames: usize) -> u64
     requires { frames ≤ 20 }
 {
     (2 * 16_382 + 3 * frames as u64) % (2 * 16_384)
 }
 
-/// Mixes so many frames of a voice, and gives where it is then; none where it has ended.
+/// Mixes that many frames of a voice, and gives where it is then; none where it has ended.
 fn play(song: &Module, out: &mut [i16]) -> Option<u64>
     requires song { IsValid song.now }
     requires even { length out.old % 2 ≡ 0 }
@@ -97,7 +97,7 @@ fn play(song: &Module, out: &mut [i16]) -> Option<u64>
     Some(voices.as_slice().first()?.pos)
 }
 
-/// Whether the song of 7 is played over its loop's end by so many frames, and nothing is written
+/// Whether the song of 7 is played over its loop's end by that many frames, and nothing is written
 /// behind them.
 fn is_played(song: &Module, frames: usize) -> bool
     requires song { IsValid song.now }

@@ -4,7 +4,7 @@ use Rattle.std.specs.List.{concat, flat_map}
 use Rattle.std.specs.Int.{w16, cast_unsigned}
 use Rattle.byteorder.specs.Endian.{little_bytes}
 
--- the bytes of the sound of so many frames: two numbers of two bytes each
+-- the bytes of the sound of that many frames: two numbers of two bytes each
 abbrev pub data_size : ℕ → ℕ
 data_size frames = 4 * frames
 
@@ -12,8 +12,8 @@ data_size frames = 4 * frames
 unfoldable pub wav_head_bytes : ℕ → ℕ → List ℕ
 wav_head_bytes rate frames = concat (
     codes "RIFF" ∷ little_bytes 4 (36 + data_size frames) ∷ codes "WAVE"
-    -- the chunk that tells the form: its size, plain numbers, two channels,
-    -- frames and bytes in a second, bytes in a frame, bits in a number
+    -- the chunk that names the form: its size, plain numbers, two channels, frames and bytes in a
+    -- second, bytes in a frame, bits in a number
     ∷ codes "fmt " ∷ little_bytes 4 16 ∷ little_bytes 2 1 ∷ little_bytes 2 2
     ∷ little_bytes 4 rate ∷ little_bytes 4 (4 * rate) ∷ little_bytes 2 4 ∷ little_bytes 2 16
     -- the chunk of the sound
@@ -27,6 +27,6 @@ number_bytes number = little_bytes 2 (cast_unsigned w16 number)
 abbrev pub sound_bytes : List ℤ → List ℕ
 sound_bytes sound = flat_map number_bytes sound
 
--- a whole file: the head for so many frames, and then the sound, left before right in each frame
+-- a whole file: the head for that many frames, and then the sound, left before right in each frame
 abbrev pub wav_bytes : ℕ → ℕ → List ℤ → List ℕ
 wav_bytes rate frames sound = wav_head_bytes rate frames ++ sound_bytes sound

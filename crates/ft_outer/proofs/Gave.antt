@@ -64,7 +64,7 @@ GivesAll-end (Some a) (Some b) (Some c) n bytes buffer p q none end =
     let nothing : b ≡ [] = q ∙ ap (λ (k : ℕ). take k buffer ++ c) none ∙ end in
     (sym (p ∙ ap (λ (rest : List ℕ). bytes ++ rest) nothing ∙ append-nil bytes), ap Some end)
 
--- a source that gave more than so many bytes had more
+-- a source that gave more than that many bytes had more
 pub HasMore-gave : (old new : Option (List ℕ)) (before now most : ℕ) (bytes : List ℕ) → Gives old new before now bytes
     → before + most < now → HasMore old most
 HasMore-gave None new before now most bytes p more = tt
@@ -72,7 +72,8 @@ HasMore-gave (Some file) None before now most bytes p more = absurd p.consumed
 HasMore-gave (Some file) (Some left) before now most bytes p more =
     omega (arith, p.counted, more, ap length p.consumed, length-append bytes left)
 
--- so far the source gave these bytes, at most so many, and did not fail; there is a buffer for the next
+-- so far the source gave these bytes, at most that many, and did not fail; there is a buffer for
+-- the next
 pub record HasRead (old new : Option (List ℕ)) (before now faults_before faults_now most : ℕ) (bytes buffer : List ℕ) :
     Type 0 where
   pub gave : Gives old new before now bytes

@@ -3,14 +3,14 @@ use Rattle.std.specs.Prelude.{ℕ, List, Option, Some, None}
 
 -- a reader that is open
 pub record OpenReaderState : Type 0 where
-  -- the bytes that it has left, where its type tells them
+  -- the bytes that it has left, where its type says them
   pub left : Option (List ℕ)
   -- how many bytes it gave since it was opened
   pub given : ℕ
 
 -- a writer that is open
 pub record OpenWriterState : Type 0 where
-  -- the bytes that it holds, where its type tells them
+  -- the bytes that it holds, where its type says them
   pub held : Option (List ℕ)
   -- how many bytes it took since it was opened
   pub taken : ℕ
@@ -37,7 +37,7 @@ pub record OutSinkState : Type 0 where
   -- how often it failed
   pub faults : ℕ
 
--- what is left of a file, where that is told
+-- what is left of a file, where that is known
 abbrev pub file_left : Option OpenReaderState → Option (List ℕ)
 file_left None = None
 file_left (Some reader) = reader.left
@@ -47,7 +47,7 @@ abbrev pub file_given : Option OpenReaderState → ℕ
 file_given None = 0
 file_given (Some reader) = reader.given
 
--- what a file holds, where that is told
+-- what a file holds, where that is known
 abbrev pub file_held : Option OpenWriterState → Option (List ℕ)
 file_held None = None
 file_held (Some writer) = writer.held

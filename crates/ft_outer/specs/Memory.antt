@@ -69,7 +69,7 @@ after_giving supply n =
 abbrev pub IsFull : ShelfState → Type 0
 IsFull shelf = length shelf.bytes ≡ shelf.room
 
--- how many bytes a call takes of so many
+-- how many bytes a call takes of that many
 abbrev pub fit_of : ShelfState → ℕ → ℕ
 fit_of shelf n = min (min n shelf.piece) (shelf.room - length shelf.bytes)
 

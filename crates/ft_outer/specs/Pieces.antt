@@ -17,12 +17,12 @@ pub record Gives (old new : Option (List ℕ)) (before now : ℕ) (bytes : List 
   pub consumed : Consumes old new bytes
   pub counted : now ≡ before + length bytes
 
--- where it was told what the source had left, it gave exactly that, and nothing is left
+-- where it was known what the source had left, it gave exactly that, and nothing is left
 abbrev pub GivesAll : Option (List ℕ) → Option (List ℕ) → List ℕ → Type 0
 GivesAll None new bytes = ⊤
 GivesAll (Some file) new bytes = (bytes ≡ file) × (new ≡ Some [])
 
--- where it is told what the source has left, that is more than so many bytes
+-- where it is known what the source has left, that is more than that many bytes
 abbrev pub HasMore : Option (List ℕ) → ℕ → Type 0
 HasMore None most = ⊤
 HasMore (Some file) most = most < length file

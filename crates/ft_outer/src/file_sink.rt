@@ -13,7 +13,7 @@ use std::fs::Files;
 use std::marker::Model;
 
 /// A file that is made, or emptied, at the first call. Once it is made, it holds what the system's
-/// file holds, where the type of that tells its bytes. Each piece goes to the file at once. Without
+/// file holds, where the type of that says its bytes. Each piece goes to the file at once. Without
 /// a call there is no file.
 ///
 /// A file that can't be made is a fault, and the next call tries again. So is a file that takes

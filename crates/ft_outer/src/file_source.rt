@@ -12,8 +12,8 @@ use std::fs;
 use std::fs::Files;
 use std::marker::Model;
 
-/// A file that is opened at the first call. Once it is open, it has left what the system's file
-/// has left, where the type of that tells its bytes.
+/// A file that is opened at the first call. Once it is open, it has left what the system's file has
+/// left, where the type of that says its bytes.
 ///
 /// A file that can't be opened is a fault, and the next call tries again.
 #[derive(Drop)]

@@ -1,10 +1,10 @@
 //! Where bytes come from and where they go: the traits of the outside, their forms
 //! in memory, and the adapters over files and standard output.
 //!
-//! A `Source` and a `Sink` count their faults. A call answers `Failed` only where the
-//! count rose, so a caller that hands a fault on can name its cause. What a source
-//! has left and what a sink holds is told by the forms in memory, and by an adapter
-//! as far as the type of the file or writer under it tells it.
+//! A `Source` and a `Sink` count their faults. A call answers `Failed` only where the count rose,
+//! so a caller that hands a fault on can name its cause. What a source has left and what a sink
+//! holds is known of the forms in memory, and of an adapter as far as the type of the file or
+//! writer under it says it.
 #![tactic(auto)]
 
 mod calls;

@@ -13,8 +13,8 @@ use ft_types::NoMemory;
 use std::alloc::Global;
 use std::marker::Model;
 
-/// A sink in memory of a fixed room, which takes pieces of a largest size. The calls whose
-/// numbers it was told fail, and those that find no room.
+/// A sink in memory of a fixed room, which takes pieces of a largest size. The calls whose numbers
+/// it was given fail, and those that find no room.
 #[derive(Debug, Drop)]
 pub struct MemSink {
     shelf: Shelf,
@@ -30,8 +30,8 @@ impl Model for MemSink {
 }
 
 impl MemSink {
-    /// Reserves the memory for `room` bytes, and takes no more later. A call takes at most
-    /// `piece` bytes. The calls whose numbers stand in `fails`, counted from 1, fail.
+    /// Reserves the memory for `room` bytes, and takes no more later. A call takes at most `piece`
+    /// bytes. The calls whose numbers are in `fails`, counted from 1, fail.
     pub fn new(
         alloc: Global,
         room: usize,

@@ -11,7 +11,7 @@ use crate::source::{Failed, Source};
 use crate::supply::Supply;
 use std::marker::Model;
 
-/// Bytes in memory, in pieces of a largest size. The calls whose numbers it was told fail.
+/// Bytes in memory, in pieces of a largest size. The calls whose numbers it was given fail.
 #[derive(Debug, Drop)]
 pub struct MemSource {
     supply: Supply,
@@ -27,7 +27,7 @@ impl Model for MemSource {
 }
 
 impl MemSource {
-    /// Gives `bytes` in pieces of at most `piece` bytes. The calls whose numbers stand in `fails`,
+    /// Gives `bytes` in pieces of at most `piece` bytes. The calls whose numbers are in `fails`,
     /// counted from 1, fail.
     pub fn new(bytes: Vec<u8>, piece: usize, fails: Vec<u32>) -> MemSource
         requires { 1 ≤ piece }

@@ -32,7 +32,7 @@ impl<F: Read + Drop> OpenReader<F> {
         OpenReader { reader, given: 0 }
     }
 
-    /// One read. A failure leaves what is left, and is never told as the end.
+    /// One read. A failure leaves what is left, and is never answered as the end.
     pub(crate) fn read(&mut self, buf: &mut [u8]) -> Result<usize, Failed>
         ensures bound { ReadsAtMost result buf.new }
         ensures bytes { ReadConsumes self.old.left self.new.left result buf.new }

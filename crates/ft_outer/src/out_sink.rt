@@ -11,7 +11,7 @@ use std::io::Write;
 use std::marker::Model;
 
 /// A writer that is open, as `io::writer` gives one of standard output. It holds what the writer
-/// holds, where the writer's type tells that. Each piece is written at once.
+/// holds, where the writer's type says that. Each piece is written at once.
 ///
 /// A writer that takes no byte of a piece that isn't empty is a fault.
 #[derive(Drop)]

@@ -17,7 +17,7 @@ pub enum ReadFault {
     Failed,
     /// The source gave more bytes than were wanted at most.
     TooBig,
-    /// Memory was wanting.
+    /// Out of memory.
     NoMemory,
 }
 

@@ -8,7 +8,7 @@ use crate::source::Failed;
 
 /// Where bytes go.
 pub trait Sink {
-    /// The bytes that it took, where they are told.
+    /// The bytes that it took, where they are known.
     ghost held: { Self → Option (List ℕ) };
 
     /// How often it failed. The count never falls.

@@ -11,10 +11,10 @@ pub struct Failed;
 
 /// Where bytes come from.
 pub trait Source {
-    /// The bytes that are left, where they are told.
+    /// The bytes that are left, where they are known.
     ghost left: { Self → Option (List ℕ) };
 
-    /// How many bytes it gave, told or not. The count stands still at the greatest u64.
+    /// How many bytes it gave, known or not. The count stays at the greatest u64.
     ghost given: { Self → ℕ };
 
     /// How often it failed. The count never falls.
@@ -22,8 +22,8 @@ pub trait Source {
 
     /// Gives the next bytes into the front of `buf`, and answers how many.
     ///
-    /// 0 for a `buf` that isn't empty is the end: where what is left is told, nothing is.
-    /// After `Failed` nothing was given.
+    /// 0 for a `buf` that isn't empty is the end: where what is left is known, nothing is. After
+    /// `Failed` nothing was given.
     fn read(&mut self, buf: &mut [u8]) -> Result<usize, Failed>
         ensures bound { ReadsAtMost result buf.new }
 

@@ -1,4 +1,4 @@
-//! A source and a sink in memory that never fail, but for want of room.
+//! A source and a sink in memory that never fail, but where room runs out.
 
 ghost use Rattle.std.specs.Prelude.{◌≡◌, ◌≤◌, ◌<◌, ◌++◌, ◌↔◌, [], length, take, drop, Some, IsOk, IsErr, IfOk, OnErr};
 ghost use Rattle.std.specs.Io.{ReadsAtMost};

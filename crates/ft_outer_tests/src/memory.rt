@@ -50,7 +50,7 @@ fn a_sink_takes_pieces_until_its_room_is_full(rt: HostRuntime) -> Result<(), Fai
     Ok(())
 }
 
-/// How reading `abcde` ends, where so many bytes are wanted at most and these calls fail.
+/// How reading `abcde` ends, where that many bytes are wanted at most and these calls fail.
 static ENDS: [(u16, &[u32], Result<usize, ReadFault>); 4] = [
     (5, &[], Ok(5)),
     (4, &[], Err(ReadFault::TooBig)),

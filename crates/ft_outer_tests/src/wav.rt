@@ -4,7 +4,7 @@ use ft_out::{put_frames, put_frames_through, wav_head};
 use ft_outer::{MemSink, SureSink, WriteFault};
 use std::test::Fail;
 
-/// The heads of a second of sound, at rates of so many frames.
+/// The heads of a second of sound, at rates of that many frames.
 static HEADS: [(u32, &[u8; 44]); 2] = [
     (
         8_000,

@@ -32,7 +32,7 @@ impl Write for Narrow<'_> {
     }
 }
 
-/// What such a writer of so much room keeps of `abcdefgh`, and whether that was told as all.
+/// What such a writer of that much room keeps of `abcdefgh`, and whether that was answered as all.
 static KEPT: [(usize, bool, &[u8]); 4] = [
     (8, true, b"abcdefgh"),
     (9, true, b"abcdefgh"),
@@ -98,7 +98,7 @@ impl Sink for Stumbling {
     }
 }
 
-/// How often a sink is called after a fault, which comes behind so many calls: by bytes, and by
+/// How often a sink is called after a fault, which comes after that many calls: by bytes, and by
 /// frames.
 fn calls_after(calls_before: u32) -> (u32, u32) {
     let mut bytes = Stumbling {

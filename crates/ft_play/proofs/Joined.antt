@@ -76,7 +76,7 @@ after_by frames (Some voice) channel =
     if is_ended frames voice then record channel { voice = None }
     else record channel { voice = Some (voice_after frames voice) }
 
--- a channel after a tick of so many frames
+-- a channel after a tick of that many frames
 pub channel_after : ℕ → Channel → Channel
 channel_after frames channel = after_by frames channel.voice channel
 

@@ -7,19 +7,19 @@ use Rattle.ft_types.specs.declared.sample.Sample.{Sample}
 use Rattle.ft_types.specs.declared.voice.SampleHead.{SampleHead}
 use Rattle.ft_types.specs.Valid.{IsValidSample, IsValidHead}
 use Rattle.ft_types.specs.Views.{Owned, begun, sounding, head_of, head_of_owned}
-use Rattle.ft_image.specs.Read.{IsRootOf, number_at, sample_at, sample_root_at}
+use Rattle.ft_image.specs.Read.{IsRootOf, mapped_sample, sample_at, sample_root_at}
 use Rattle.ft_player.specs.declared.seat.KeptWord.{KeptWord}
 use Rattle.ft_player.specs.declared.seat.Seat.{Seat}
 use Rattle.ft_player.specs.declared.songs.Songs.{Songs}
 use Rattle.ft_player.specs.Songs.{song_at, place_at}
-use Rattle.ft_player.specs.Seats.{IsKept, IsSeatOf}
+use Rattle.ft_player.specs.Seats.{IsWordKept, IsSeatOf}
 use Rattle.ft_player.proofs.Ranged.{sample_ranged}
 
 -- what words say of it: its root and its head
 pub record Read (songs : Songs) (version instrument note found : ℕ) (head : SampleHead) : Type 0 where
   pub sample : Sample
-  pub is : sample_at (song_at songs version) instrument (number_at (song_at songs version) instrument note) ≡ Some sample
-  pub at : sample_root_at (place_at songs version) instrument (number_at (song_at songs version) instrument note) ≡ Some found
+  pub is : sample_at (song_at songs version) instrument (mapped_sample (song_at songs version) instrument note) ≡ Some sample
+  pub at : sample_root_at (place_at songs version) instrument (mapped_sample (song_at songs version) instrument note) ≡ Some found
   pub of : IsRootOf (place_at songs version) (song_at songs version) found sample
   pub headed : head ≡ head_of sample
 
@@ -33,13 +33,13 @@ none_of (Some x) e = absurd cc
 
 pub read_of : (songs : Songs) (version instrument note found : ℕ) (head : SampleHead) (answer : Option ℕ)
     → answer ≡ Some found
-    → answer ≡ sample_root_at (place_at songs version) instrument (number_at (song_at songs version) instrument note)
-    → is_some answer ≡ is_some (sample_at (song_at songs version) instrument (number_at (song_at songs version) instrument note))
+    → answer ≡ sample_root_at (place_at songs version) instrument (mapped_sample (song_at songs version) instrument note)
+    → is_some answer ≡ is_some (sample_at (song_at songs version) instrument (mapped_sample (song_at songs version) instrument note))
     → ((x : Sample) → IsRootOf (place_at songs version) (song_at songs version) found x → head ≡ head_of x)
     → Read songs version instrument note found head
 read_of songs version instrument note found head answer is root missing headed =
     let song = song_at songs version in
-    let number = number_at song instrument note in
+    let number = mapped_sample song instrument note in
     let x = some_of (sample_at song instrument number) (ap is_some (sym is) ∙ missing) in
     let at = sym root ∙ is in
     let of : IsRootOf (place_at songs version) song found x.0
@@ -53,18 +53,18 @@ read_of songs version instrument note found head answer is root missing headed =
 
 begun_by : (version : ℕ) (song : Module) (instrument note : ℕ)
     → begun version song instrument note
-    ≡ sounding version instrument (number_at song instrument note) (sample_at song instrument (number_at song instrument note))
+    ≡ sounding version instrument (mapped_sample song instrument note) (sample_at song instrument (mapped_sample song instrument note))
 unfolding begun
 begun_by version song instrument note = refl
 
 -- there is no such sample
 pub begins_none : (version : ℕ) (song : Module) (instrument note : ℕ)
-    → false ≡ is_some (sample_at song instrument (number_at song instrument note))
+    → false ≡ is_some (sample_at song instrument (mapped_sample song instrument note))
     → None ≡ begun version song instrument note
 begins_none version song instrument note e =
     sym (begun_by version song instrument note
-    ∙ ap (sounding version instrument (number_at song instrument note))
-    (none_of (sample_at song instrument (number_at song instrument note)) e))
+    ∙ ap (sounding version instrument (mapped_sample song instrument note))
+    (none_of (sample_at song instrument (mapped_sample song instrument note)) e))
 
 picked_none : (n : ℕ) (o : Option Owned) → (1 ≤ n → ⊥) → (if n == 0 then None else o) ≡ None
 picked_none zero o none = refl
@@ -79,7 +79,7 @@ pub begins_quiet : (songs : Songs) (version instrument note found : ℕ) (head :
     → None ≡ begun version (song_at songs version) instrument note
 begins_quiet songs version instrument note found head r none =
     let song = song_at songs version in
-    let number = number_at song instrument note in
+    let number = mapped_sample song instrument note in
     sym (begun_by version song instrument note ∙ ap (sounding version instrument number) r.is
     ∙ picked_none (length r.sample.frames) (Some (record {
       origin = record { version = version; instrument = instrument; sample = number };
@@ -92,7 +92,7 @@ pub begins_head : (songs : Songs) (version instrument note found : ℕ) (head : 
     → head_of_owned (begun version (song_at songs version) instrument note) ≡ Some head
 begins_head songs version instrument note found head r some =
     let song = song_at songs version in
-    let number = number_at song instrument note in
+    let number = mapped_sample song instrument note in
     ap head_of_owned (begun_by version song instrument note ∙ ap (sounding version instrument number) r.is
     ∙ picked_some (length r.sample.frames) (Some (record {
       origin = record { version = version; instrument = instrument; sample = number };
@@ -112,7 +112,7 @@ begins_unsound songs version instrument note found head r valid none =
 -- the seat of a head that can sound
 pub new_seat : (songs : Songs) (seat : Seat)
     → Read songs seat.version seat.instrument seat.note seat.root seat.head
-    → IsValidHead seat.head → ((word : KeptWord) → IsKept seat.words word → ⊥) → IsSeatOf songs seat
+    → IsValidHead seat.head → ((word : KeptWord) → IsWordKept seat.words word → ⊥) → IsSeatOf songs seat
 new_seat songs seat r valid none = record {
   head = begins_head songs seat.version seat.instrument seat.note seat.root seat.head r
       (subst (λ (x : SampleHead). 1 ≤ x.frames) r.headed valid.some_frames);
@@ -140,8 +140,8 @@ sampled version instrument number (Some x) owned e =
 -- a seat's sample is the one of its root
 pub begun_sample : (version : ℕ) (song : Module) (instrument note : ℕ) (owned : Owned)
     → begun version song instrument note ≡ Some owned
-    → sample_at song instrument (number_at song instrument note) ≡ Some owned.sample
+    → sample_at song instrument (mapped_sample song instrument note) ≡ Some owned.sample
 begun_sample version song instrument note owned e =
-    sampled version instrument (number_at song instrument note)
-    (sample_at song instrument (number_at song instrument note)) owned
+    sampled version instrument (mapped_sample song instrument note)
+    (sample_at song instrument (mapped_sample song instrument note)) owned
     (sym (begun_by version song instrument note) ∙ e)

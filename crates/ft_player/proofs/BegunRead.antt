@@ -8,12 +8,12 @@ use Rattle.ft_types.specs.Views.{head_of}
 use Rattle.ft_segments.specs.Walk.{Placed}
 use Rattle.ft_shared.specs.Pass.{ReaderState}
 use Rattle.ft_image.specs.Shown.{Shows}
-use Rattle.ft_image.specs.Read.{MayShowAll, MayShowSample, IsRootOf, number_at, sample_at, sample_root_at}
+use Rattle.ft_image.specs.Read.{MayShowAll, MayShowSample, IsRootOf, mapped_sample, sample_at, sample_root_at}
 use Rattle.ft_image.specs.Passes.{MayShowHeld, HasReadOn}
 use Rattle.ft_image.specs.PassLaws.{reads_through}
 use Rattle.ft_player.specs.declared.songs.Songs.{Songs}
 use Rattle.ft_player.specs.Songs.{song_at, place_at}
-use Rattle.ft_player.specs.Behind.{Holds, Stands}
+use Rattle.ft_player.specs.Behind.{Holds, AreSongsBehind}
 use Rattle.ft_player.proofs.Held.{HeldSong, held_song}
 use Rattle.ft_player.proofs.Beginning.{Read, read_of}
 
@@ -26,12 +26,12 @@ pub record Begun (songs : Songs) (pass : ReaderState) (version root instrument n
 abbrev pub Answers : ReaderState → ℕ → ℕ → ℕ → Option ℕ → Type 0
 Answers pass root instrument note answer =
     (p : Placed) (m : Module) → MayShowAll MayShowHeld pass p → Shows p m → p.root ≡ root
-    → answer ≡ sample_root_at p instrument (number_at m instrument note)
+    → answer ≡ sample_root_at p instrument (mapped_sample m instrument note)
 
 abbrev pub IsMissed : ReaderState → ℕ → ℕ → ℕ → Option ℕ → Type 0
 IsMissed pass root instrument note answer =
     (p : Placed) (m : Module) → MayShowAll MayShowHeld pass p → Shows p m → p.root ≡ root
-    → is_some answer ≡ is_some (sample_at m instrument (number_at m instrument note))
+    → is_some answer ≡ is_some (sample_at m instrument (mapped_sample m instrument note))
 
 -- what reading the head answered
 abbrev pub Heads : ReaderState → ℕ → SampleHead → Type 0
@@ -41,7 +41,7 @@ Heads pass found head =
 
 pub begun_read : (songs : Songs) (old mid new : ReaderState) (version root instrument note found : ℕ) (head : SampleHead)
     (answer : Option ℕ)
-    → HasReadOn old mid → HasReadOn mid new → Holds old version root → Stands songs new → answer ≡ Some found
+    → HasReadOn old mid → HasReadOn mid new → Holds old version root → AreSongsBehind songs new → answer ≡ Some found
     → Answers mid root instrument note answer → IsMissed mid root instrument note answer
     → ((p : Placed) (s : ℕ) → MayShowHeld new p s → MayShowHeld mid p s) → Heads new found head
     → Begun songs new version root instrument note found head

@@ -7,7 +7,7 @@ use Rattle.ft_shared.specs.Pass.{ReaderState}
 use Rattle.ft_image.specs.Passes.{AreCounted}
 use Rattle.ft_player.specs.Player.{HasClosed}
 
--- so many of the first pins are gone
+-- the first n pins are gone
 abbrev pub cleared : ℕ → List (Option Pin) → List (Option Pin)
 cleared zero pins = pins
 cleared (suc n) pins = slice_set (cleared n pins) n None
@@ -33,7 +33,7 @@ all_gone pins =
     ∙ ap (λ (l : List (Option Pin)). replicate (length pins) None ++ l) (none_left pins)
     ∙ append-nil (replicate (length pins) None)
 
--- so many pins were taken away, and all else but the steps is as it was
+-- that many pins were taken away, and all else but the steps is as it was
 pub record IsCleared (n : ℕ) (old new : ReaderState) : Type 0 where
   pub steps : List WordStep
   pub is : new ≡ record old {

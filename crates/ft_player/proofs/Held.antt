@@ -1,7 +1,7 @@
 -- The song of the version that a pass holds, by its words.
 use Rattle.std.proofs.Common.{◌≡◌, ℕ, Option, refl, sym, ap, subst, ◌∙◌}
 use Rattle.ft_segments.specs.Walk.{Placed}
-use Rattle.ft_shared.specs.History.{place_of}
+use Rattle.ft_shared.specs.History.{root_and_pool}
 use Rattle.ft_shared.specs.Pass.{ReaderState}
 use Rattle.ft_image.specs.Shown.{Shows}
 use Rattle.ft_image.specs.Read.{MayShowAll}
@@ -9,7 +9,7 @@ use Rattle.ft_image.specs.Passes.{IsAmong, MayShowHeld, HasReadOn}
 use Rattle.ft_player.specs.declared.songs.SongVersion.{SongVersion}
 use Rattle.ft_player.specs.declared.songs.Songs.{Songs}
 use Rattle.ft_player.specs.Songs.{history_of, song_of, song_at, place_in, place_at}
-use Rattle.ft_player.specs.Behind.{Holds, Stands}
+use Rattle.ft_player.specs.Behind.{Holds, AreSongsBehind}
 use Rattle.ft_player.specs.BehindLaws.{held_version}
 
 pub record HeldSong (songs : Songs) (pass : ReaderState) (version root : ℕ) : Type 0 where
@@ -20,11 +20,11 @@ pub record HeldSong (songs : Songs) (pass : ReaderState) (version root : ℕ) : 
   pub channels : (song_at songs version).channels ≡ pass.register.sizes.channels
 
 -- by its version
-held_by : (songs : Songs) (pass : ReaderState) (version root : ℕ) → Holds pass version root → Stands songs pass
+held_by : (songs : Songs) (pass : ReaderState) (version root : ℕ) → Holds pass version root → AreSongsBehind songs pass
     → HeldSong songs pass version root
 held_by songs pass version root holds stands =
     let h = held_version songs pass (record { version = version; root = root }) stands holds in
-    let place : place_at songs version ≡ place_of h.version.placed = ap place_in h.found in
+    let place : place_at songs version ≡ root_and_pool h.version.placed = ap place_in h.found in
     let song : song_at songs version ≡ h.version.song = ap song_of h.found in record {
       may = subst (λ (p : Placed). MayShowAll MayShowHeld pass p) (sym place) (λ s of. (
         h.shown.among,
@@ -49,6 +49,6 @@ held_by songs pass version root holds stands =
 
 -- the version that a pass held before it read on
 pub held_song : (songs : Songs) (old new : ReaderState) (version root : ℕ) → HasReadOn old new → Holds old version root
-    → Stands songs new → HeldSong songs new version root
+    → AreSongsBehind songs new → HeldSong songs new version root
 held_song songs old new version root on holds stands =
     held_by songs new version root (ap (λ (x : ReaderState). x.notes.held) on.is ∙ holds) stands

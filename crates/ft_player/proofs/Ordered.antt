@@ -12,7 +12,7 @@ use Rattle.ft_player.specs.Seats.{pin_in}
 use Rattle.ft_shared.specs.History.{HasVersion, HasTakenVersion, HasRead}
 use Rattle.ft_player.specs.declared.songs.Songs.{Songs}
 use Rattle.ft_player.specs.Songs.{history_of}
-use Rattle.ft_player.specs.Behind.{AreSeated, HasPlayedOn, IsShown, Stands}
+use Rattle.ft_player.specs.Behind.{AreSeated, HasPlayedOn, IsShown, AreSongsBehind}
 use Rattle.ft_player.specs.Player.{PlayerState, HasClosed, HasLooked, IsAsBefore, IsInOrder, IsRenewed, KeepsHead, taken_of}
 use Rattle.ft_player.proofs.Renewing.{WasTaken, is_taken, still_taken}
 
@@ -84,9 +84,11 @@ counted_on a b c x y z e f = omega (arith, e, f)
 
 -- ---- with another pass, which holds and has noted the same
 
--- behind passes of one register with the same looks, takes, held version and reads the same songs may stand
+-- the same songs may be behind passes of one register with the same looks, takes, held version and
+-- reads
 pub same_songs : (songs : Songs) (a b : ReaderState) → b.register ≡ a.register → b.notes.looks ≡ a.notes.looks
-    → b.notes.takes ≡ a.notes.takes → b.notes.held ≡ a.notes.held → b.notes.reads ≡ a.notes.reads → Stands songs b → Stands songs a
+    → b.notes.takes ≡ a.notes.takes → b.notes.held ≡ a.notes.held → b.notes.reads ≡ a.notes.reads → AreSongsBehind songs b
+    → AreSongsBehind songs a
 same_songs songs a b register looks takes held reads s = record {
   agrees = record {
     looks = subst (All (HasVersion (history_of songs))) looks s.agrees.looks;
@@ -97,20 +99,20 @@ same_songs songs a b register looks takes held reads s = record {
   shown = subst (λ (x : RegisterId). All (IsShown x.sizes) songs.versions) register s.shown;
 }
 
-pub songs_before : (songs : Songs) (old new : ReaderState) → IsAsBefore old new → Stands songs new → Stands songs old
+pub songs_before : (songs : Songs) (old new : ReaderState) → IsAsBefore old new → AreSongsBehind songs new → AreSongsBehind songs old
 songs_before songs old new b = same_songs songs old new b.register b.looks b.takes b.held b.reads
 
-pub songs_after : (songs : Songs) (old new : ReaderState) → IsAsBefore old new → Stands songs old → Stands songs new
+pub songs_after : (songs : Songs) (old new : ReaderState) → IsAsBefore old new → AreSongsBehind songs old → AreSongsBehind songs new
 songs_after songs old new b =
     same_songs songs new old (sym b.register) (sym b.looks) (sym b.takes) (sym b.held) (sym b.reads)
 
-pub songs_closed : (songs : Songs) (old new : ReaderState) → HasClosed old new → Stands songs new → Stands songs old
+pub songs_closed : (songs : Songs) (old new : ReaderState) → HasClosed old new → AreSongsBehind songs new → AreSongsBehind songs old
 songs_closed songs old new c =
     same_songs songs old new (ap (λ (x : ReaderState). x.register) c.is) (ap (λ (x : ReaderState). x.notes.looks) c.is)
     (ap (λ (x : ReaderState). x.notes.takes) c.is) (ap (λ (x : ReaderState). x.notes.held) c.is)
     (ap (λ (x : ReaderState). x.notes.reads) c.is)
 
-pub songs_unclosed : (songs : Songs) (old new : ReaderState) → HasClosed old new → Stands songs old → Stands songs new
+pub songs_unclosed : (songs : Songs) (old new : ReaderState) → HasClosed old new → AreSongsBehind songs old → AreSongsBehind songs new
 songs_unclosed songs old new c =
     let is = sym c.is in
     same_songs songs new old (ap (λ (x : ReaderState). x.register) is) (ap (λ (x : ReaderState). x.notes.looks) is)

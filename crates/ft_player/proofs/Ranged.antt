@@ -8,7 +8,7 @@ use Rattle.ft_types.specs.declared.pattern.Cell.{Cell}
 use Rattle.ft_types.specs.declared.instrument.Instrument.{Instrument}
 use Rattle.ft_types.specs.declared.sample.Sample.{Sample}
 use Rattle.ft_types.specs.Valid.{width_of, IsValid, IsValidCell, IsValidPattern, IsValidInstrument, IsValidEnvelope, IsValidShape, IsValidSample, IsValidHead, IsValidSongHead}
-use Rattle.ft_types.specs.Views.{song_head_of, rows_in, rows_at, cell_in, cell_at, empty_cell, instrument_at, envelope_in, shape_in, head_of}
+use Rattle.ft_types.specs.Views.{song_head_of, row_count, rows_at, cell_in, cell_at, empty_cell, instrument_at, envelope_in, shape_in, head_of}
 
 all_at : {A : Type 0} (P : A → Type 0) (xs : List A) (k : ℕ) (x : A) → All P xs → slice_get xs k ≡ Some x → P x
 all_at P xs k x all e =
@@ -26,7 +26,7 @@ head_ranged song v = record {
 }
 
 rows_of : (channels : ℕ) (o : Option Pattern) → ((p : Pattern) → o ≡ Some p → IsValidPattern channels p)
-    → (1 ≤ rows_in o) × (rows_in o ≤ 256)
+    → (1 ≤ row_count o) × (row_count o ≤ 256)
 rows_of channels None all = (omega arith, omega arith)
 rows_of channels (Some p) all = let v = all p refl in (v.some_rows, v.few_rows)
 

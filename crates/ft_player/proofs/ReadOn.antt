@@ -5,12 +5,12 @@ use Rattle.ft_image.specs.Passes.{HasReadOn}
 use Rattle.ft_player.specs.declared.seat.Seat.{Seat}
 use Rattle.ft_player.specs.declared.songs.Songs.{Songs}
 use Rattle.ft_player.specs.Seats.{pin_in}
-use Rattle.ft_player.specs.Behind.{Holds, Stands, AreSeated, HasPlayedOn}
+use Rattle.ft_player.specs.Behind.{Holds, AreSongsBehind, AreSeated, HasPlayedOn}
 use Rattle.ft_player.specs.BehindLaws.{played_read}
 
--- what may stand behind a pass stood behind it before
+-- what may be behind a pass was behind it before
 abbrev pub StoodBefore : Type 0
-StoodBefore = (songs : Songs) (old new : ReaderState) → HasPlayedOn old new → Stands songs new → Stands songs old
+StoodBefore = (songs : Songs) (old new : ReaderState) → HasPlayedOn old new → AreSongsBehind songs new → AreSongsBehind songs old
 
 -- a view's pass is that of its register and holds its version, and its seats are those of its pins
 abbrev pub IsKept : RegisterId → List (Option Seat) → ℕ → ℕ → ReaderState → Type 0
@@ -22,8 +22,8 @@ IsKept shared seats version root pass = record {
   seated : AreSeated pass seats;
 }
 
-pub stood : (law : StoodBefore) (old new : ReaderState) → HasReadOn old new → (songs : Songs) → Stands songs new
-    → Stands songs old
+pub stood : (law : StoodBefore) (old new : ReaderState) → HasReadOn old new → (songs : Songs) → AreSongsBehind songs new
+    → AreSongsBehind songs old
 stood law old new on songs stands = law songs old new (played_read old new on) stands
 
 pub kept_on : (law : StoodBefore) (shared : RegisterId) (seats : List (Option Seat)) (version root : ℕ) (old new : ReaderState)

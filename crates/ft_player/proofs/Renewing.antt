@@ -1,4 +1,4 @@
--- A pass that has looked and taken: what stands behind it stood behind it before.
+-- A pass that has looked and taken: what is behind it was behind it before.
 use Rattle.std.proofs.Common.{◌≡◌, ◌⊎◌, inl, inr, List, [], ◌∷◌, ◌++◌, length, All, Some, sym, subst, ◌∙◌}
 use Rattle.std.specs.List.{Contains}
 use Rattle.std.proofs.Math.Seq.{take-append_seam}
@@ -12,7 +12,7 @@ use Rattle.ft_shared.specs.History.{Agrees, HasVersion, HasTakenVersion, HasRead
 use Rattle.ft_shared.specs.Pass.{ReaderState, RegisterId}
 use Rattle.ft_player.specs.declared.songs.Songs.{Songs}
 use Rattle.ft_player.specs.Songs.{history_of}
-use Rattle.ft_player.specs.Behind.{IsShown, Stands}
+use Rattle.ft_player.specs.Behind.{IsShown, AreSongsBehind}
 use Rattle.ft_player.specs.Player.{IsRenewed, TakesAreOf, taken_of}
 
 front : {A : Type 0} (P : A → Type 0) (xs ys zs : List A) → zs ≡ xs ++ ys → All P zs → All P xs
@@ -40,7 +40,7 @@ agreed h old new held r taken a =
     }
 
 pub stood : (songs : Songs) (old new : ReaderState) (held : Held) → new.register ≡ old.register
-    → IsRenewed old.notes new.notes held → WasTaken old.notes → Stands songs new → Stands songs old
+    → IsRenewed old.notes new.notes held → WasTaken old.notes → AreSongsBehind songs new → AreSongsBehind songs old
 stood songs old new held same r taken s = record {
   agrees = agreed (history_of songs) old.notes new.notes held r taken s.agrees;
   shown = subst (λ (x : RegisterId). All (IsShown x.sizes) songs.versions) same s.shown;

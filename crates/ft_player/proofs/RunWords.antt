@@ -9,7 +9,7 @@ use Rattle.ft_player.specs.declared.seat.KeptWords.{KeptWords}
 use Rattle.ft_player.specs.declared.seat.Seat.{Seat}
 use Rattle.ft_player.specs.declared.songs.Songs.{Songs}
 use Rattle.ft_player.specs.Seats.{numbers_in, numbers_of, IsSeatOf}
-use Rattle.ft_player.specs.Behind.{Stands}
+use Rattle.ft_player.specs.Behind.{AreSongsBehind}
 use Rattle.ft_player.specs.Asked.{HasAsked}
 use Rattle.ft_player.specs.Runs.{HasFollowed, HasAskedAll}
 
@@ -85,7 +85,7 @@ asked_one first many old new seat seat_new steps steps_new some few has =
 pub asked_more : (first many : ℕ) (old mid new : ReaderState) (seat seat_mid : Seat) (words : KeptWords)
     (steps steps_mid steps_new : ℕ) → 1 ≤ many → 4 < first % 4 + many
     → HasAsked first old mid seat seat_mid steps steps_mid
-    → ((songs : Songs) → Stands songs new → IsSeatOf songs seat → IsSeatOf songs (record seat_mid { words = words }))
+    → ((songs : Songs) → AreSongsBehind songs new → IsSeatOf songs seat → IsSeatOf songs (record seat_mid { words = words }))
     → numbers_of words ≡ last_word first many ∷ (last_word first many - 1) ∷ []
     → HasFollowed (word_of first) (last_word first many) mid new steps_mid steps_new
     → HasAskedAll first many old new seat (record seat_mid { words = words }) steps steps_new

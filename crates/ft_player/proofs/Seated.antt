@@ -1,4 +1,4 @@
--- Seats of samples, by what may stand behind a pass.
+-- Seats of samples, by what may be behind a pass.
 use Rattle.std.proofs.Common.{◌≡◌, ◌≢◌, ℕ, zero, suc, ◌+◌, ◌<◌, ◌≤◌, ◌==◌, if◌then◌else◌, List, [], ◌∷◌, Bool, true, false, Option, None, Some, IfSome, length, map, get_or, set, is_some, refl, sym, ap, subst, ◌∙◌, arith, inl, inr}
 use Rattle.std.proofs.Math.Seq.{map-set_same}
 use Rattle.std.proofs.lemmas.Bool.{cases_eq}
@@ -14,19 +14,19 @@ use Rattle.ft_segments.specs.Walk.{Placed}
 use Rattle.ft_shared.specs.declared.law.Pin.{Pin}
 use Rattle.ft_shared.specs.declared.law.PlacedVersion.{PlacedVersion}
 use Rattle.ft_shared.specs.Counts.{pin_of}
-use Rattle.ft_shared.specs.History.{placed_at, place_of, Agrees}
+use Rattle.ft_shared.specs.History.{placed_at, root_and_pool, Agrees}
 use Rattle.ft_shared.specs.Pass.{ReaderState}
 use Rattle.ft_image.specs.Shown.{Shows}
-use Rattle.ft_image.specs.Read.{MayShowSample, IsRootOf, number_at, sample_at}
+use Rattle.ft_image.specs.Read.{MayShowSample, IsRootOf, mapped_sample, sample_at}
 use Rattle.ft_image.specs.Passes.{IsAmong, MayShowPinned, HasReadOn}
 use Rattle.ft_player.specs.declared.seat.KeptWord.{KeptWord}
 use Rattle.ft_player.specs.declared.seat.KeptWords.{KeptWords}
 use Rattle.ft_player.specs.declared.seat.Seat.{Seat}
 use Rattle.ft_player.specs.declared.songs.SongVersion.{SongVersion}
 use Rattle.ft_player.specs.declared.songs.Songs.{Songs}
-use Rattle.ft_player.specs.Songs.{placed_of, history_of, version_in, version_at, no_song, song_of, song_at, place_in, place_at}
-use Rattle.ft_player.specs.Seats.{head_in, pin_in, numbers_of, words_in, reworded, owned_by, frames_in, frames_by, IsWordOf, IsSeatOf, IsSeated}
-use Rattle.ft_player.specs.Behind.{Stands, IsShown, shown_by}
+use Rattle.ft_player.specs.Songs.{placed_of, history_of, version_among, version_at, no_song, song_of, song_at, place_in, place_at}
+use Rattle.ft_player.specs.Seats.{head_in, pin_in, numbers_of, seat_words, reworded, owned_by, owned_frames, frames_by, IsWordOf, IsSeatOf, IsSeated}
+use Rattle.ft_player.specs.Behind.{AreSongsBehind, IsShown, shown_by}
 use Rattle.ft_player.specs.BehindLaws.{each_version}
 use Rattle.ft_player.proofs.Beginning.{begun_sample}
 
@@ -37,11 +37,11 @@ placed_pick : (b : Bool) (v x : SongVersion) (o : Option SongVersion) (p : Optio
 placed_pick true v x o p e rest = ap (λ (y : SongVersion). Some y.placed) (same_Some v x e)
 placed_pick false v x o p e rest = rest e
 
-has_placed : (versions : List SongVersion) (number : ℕ) (x : SongVersion) → version_in versions number ≡ Some x
+has_placed : (versions : List SongVersion) (number : ℕ) (x : SongVersion) → version_among versions number ≡ Some x
     → placed_at (placed_of versions) number ≡ Some x.placed
 has_placed [] number x e = absurd (none-some x e)
 has_placed (v ∷ versions) number x e =
-    placed_pick (v.placed.version == number) v x (version_in versions number) (placed_at (placed_of versions) number) e
+    placed_pick (v.placed.version == number) v x (version_among versions number) (placed_at (placed_of versions) number) e
     (has_placed versions number x)
 
 nothing_in : (instrument number : ℕ) (x : Sample) → sample_at no_song instrument number ≡ Some x → ⊥
@@ -63,16 +63,16 @@ pub record SeatSample (songs : Songs) (pass : ReaderState) (seat : Seat) : Type 
   pub headed : head_of owned.sample ≡ seat.head
   pub placed : PlacedVersion
   pub found : placed_at (history_of songs) seat.version ≡ Some placed
-  pub at : place_at songs seat.version ≡ place_of placed
-  pub among : IsAmong pass.register.sizes.segments (place_of placed)
+  pub at : place_at songs seat.version ≡ root_and_pool placed
+  pub among : IsAmong pass.register.sizes.segments (root_and_pool placed)
   pub shows : Shows (place_at songs seat.version) (song_at songs seat.version)
   pub of : IsRootOf (place_at songs seat.version) (song_at songs seat.version) seat.root owned.sample
 
-pub seat_sample : (songs : Songs) (pass : ReaderState) (seat : Seat) → Stands songs pass → IsSeatOf songs seat
+pub seat_sample : (songs : Songs) (pass : ReaderState) (seat : Seat) → AreSongsBehind songs pass → IsSeatOf songs seat
     → SeatSample songs pass seat
 seat_sample songs pass seat stands seated =
     let song = song_at songs seat.version in
-    let number = number_at song seat.instrument seat.note in
+    let number = mapped_sample song seat.instrument seat.note in
     let o = owned_some (owned_by songs (Some seat)) seat.head seated.head in
     let x = begun_sample seat.version song seat.instrument seat.note o.0 o.1 in
     let v = there (version_at songs seat.version) seat.instrument number o.0.sample x in
@@ -93,9 +93,9 @@ seat_sample songs pass seat stands seated =
 abbrev pub PinShown : Type 0
 PinShown = (pass : ReaderState) (channel : ℕ) (history : List PlacedVersion) (pin : Pin) (placed : PlacedVersion)
     (song : Module) (sample : Sample) → Agrees history pass.notes → pin_of pass.notes channel ≡ Some pin
-    → placed_at history pin.version ≡ Some placed → IsAmong pass.register.sizes.segments (place_of placed)
-    → Shows (place_of placed) song → IsRootOf (place_of placed) song pin.root sample
-    → MayShowSample (λ view. MayShowPinned view channel) pass (place_of placed) pin.root
+    → placed_at history pin.version ≡ Some placed → IsAmong pass.register.sizes.segments (root_and_pool placed)
+    → Shows (root_and_pool placed) song → IsRootOf (root_and_pool placed) song pin.root sample
+    → MayShowSample (λ view. MayShowPinned view channel) pass (root_and_pool placed) pin.root
 
 pub record PinnedSample (songs : Songs) (pass : ReaderState) (channel : ℕ) (seat : Seat) : Type 0 where
   pub sample : Sample
@@ -105,12 +105,12 @@ pub record PinnedSample (songs : Songs) (pass : ReaderState) (channel : ℕ) (se
   pub shows : Shows (place_at songs seat.version) (song_at songs seat.version)
   pub of : IsRootOf (place_at songs seat.version) (song_at songs seat.version) seat.root sample
 
-pinned_by : PinShown → (songs : Songs) (pass : ReaderState) (channel : ℕ) (seat : Seat) → Stands songs pass
+pinned_by : PinShown → (songs : Songs) (pass : ReaderState) (channel : ℕ) (seat : Seat) → AreSongsBehind songs pass
     → pin_of pass.notes channel ≡ pin_in (Some seat) → SeatSample songs pass seat → PinnedSample songs pass channel seat
 pinned_by law songs pass channel seat stands pinned s =
     let song = song_at songs seat.version in record {
       sample = s.owned.sample;
-      frames = ap frames_in s.is;
+      frames = ap owned_frames s.is;
       many = ap (λ (h : SampleHead). h.frames) (sym s.headed);
       may = subst (λ (p : Placed). MayShowSample (λ view. MayShowPinned view channel) pass p seat.root) (sym s.at)
           (law pass channel (history_of songs) (record { version = seat.version; root = seat.root }) s.placed song s.owned.sample
@@ -123,7 +123,7 @@ pinned_by law songs pass channel seat stands pinned s =
 
 -- after a pass has read on
 pub pinned_sample : PinShown → (songs : Songs) (old new : ReaderState) (channel other : ℕ) (seat : Seat) → HasReadOn old new
-    → channel ≡ other → pin_of old.notes channel ≡ pin_in (Some seat) → Stands songs new → IsSeatOf songs seat
+    → channel ≡ other → pin_of old.notes channel ≡ pin_in (Some seat) → AreSongsBehind songs new → IsSeatOf songs seat
     → PinnedSample songs new other seat
 pinned_sample law songs old new channel other seat on same pinned stands seated =
     pinned_by law songs new other seat stands
@@ -211,7 +211,7 @@ head_valid (Some seat) version segments all = all.3
 
 pub no_words : (o : Option Seat) (version segments : ℕ) → IfSome o (λ seat. (seat.version ≡ version)
     × (seat.root < segments) × (numbers_of seat.words ≡ []) × IsValidHead seat.head)
-    → words_in o ≡ []
+    → seat_words o ≡ []
 no_words None version segments all = refl
 no_words (Some seat) version segments all = all.2
 

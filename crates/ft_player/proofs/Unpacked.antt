@@ -21,7 +21,7 @@ pub as_written : (wide : Bool) (word place : ℕ) (z : ℤ) → FitsSigned w16 z
     → IsFrameIn wide word place (to_z w16 (of_z w16 z))
 as_written wide word place z fits is = subst (IsFrameIn wide word place) (sym (to_z-of_z w16 z fits)) is
 
--- what stands at a place once some of four frames are written behind others
+-- what is at a place once some of four frames are written behind others
 Stands : Bool → ℕ → ℕ → ℕ → List ℤ → ℕ → ℤ → Type 0
 Stands wide word place at frames j z =
     (j < at → z ≡ get_or frames j (pos 0)) × ((k : ℕ) → j ≡ at + k → IsFrameIn wide word (place + k) z)

@@ -1,4 +1,4 @@
--- What may stand behind a player, and what a player shows by it.
+-- What may be behind a player, and what a player shows by it.
 use Rattle.std.specs.Prelude.{◌≡◌, ℕ, List, ◌++◌, All, Option, Some, None, get_or, map}
 use Rattle.ft_types.specs.Views.{Shown}
 use Rattle.ft_shared.specs.declared.law.Notes.{Notes}
@@ -6,7 +6,7 @@ use Rattle.ft_shared.specs.declared.law.Pin.{Pin}
 use Rattle.ft_shared.specs.declared.law.Sizes.{Sizes}
 use Rattle.ft_shared.specs.declared.law.WordRead.{WordRead}
 use Rattle.ft_shared.specs.declared.law.WordStep.{WordStep}
-use Rattle.ft_shared.specs.History.{place_of, Agrees}
+use Rattle.ft_shared.specs.History.{root_and_pool, Agrees}
 use Rattle.ft_shared.specs.Pass.{ReaderState}
 use Rattle.ft_image.specs.Passes.{IsAmong}
 use Rattle.ft_image.specs.Shown.{Shows}
@@ -16,16 +16,16 @@ use Rattle.ft_player.specs.declared.songs.Songs.{Songs}
 use Rattle.ft_player.specs.Songs.{history_of, song_at}
 use Rattle.ft_player.specs.Seats.{owned_by, IsSeated}
 
--- ---- what may stand behind a pass
+-- ---- what may be behind a pass
 
 -- A version shows its song in segments of the pool, and the song has the register's channels
 pub record IsShown (sizes : Sizes) (version : SongVersion) : Type 0 where
-  pub among : IsAmong sizes.segments (place_of version.placed)
-  pub shows : Shows (place_of version.placed) version.song
+  pub among : IsAmong sizes.segments (root_and_pool version.placed)
+  pub shows : Shows (root_and_pool version.placed) version.song
   pub channels : version.song.channels ≡ sizes.channels
 
 -- The versions agree with what the pass noted, and show their songs
-pub record Stands (songs : Songs) (pass : ReaderState) : Type 0 where
+pub record AreSongsBehind (songs : Songs) (pass : ReaderState) : Type 0 where
   pub agrees : Agrees (history_of songs) pass.notes
   pub shown : All (IsShown pass.register.sizes) songs.versions
 
@@ -43,10 +43,11 @@ shown_by songs number seats = record {
   kept = map (owned_by songs) seats;
 }
 
--- Whatever may stand behind the pass, each seat is that of its sample
+-- Whatever may be behind the pass, each seat is that of its sample
 abbrev pub AreSeated : ReaderState → List (Option Seat) → Type 0
 AreSeated pass seats =
-    (songs : Songs) (channel : ℕ) → Stands songs pass → IsSeated songs (get_or seats channel None)
+    (songs : Songs) (channel : ℕ) → AreSongsBehind songs pass
+    → IsSeated songs (get_or seats channel None)
 
 -- ---- what playing leaves of a pass
 

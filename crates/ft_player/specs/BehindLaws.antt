@@ -1,4 +1,4 @@
--- Laws of what may stand behind a player.
+-- Laws of what may be behind a player.
 use Rattle.std.proofs.Common.{◌≡◌, ℕ, zero, suc, ◌==◌, if◌then◌else◌, List, [], ◌∷◌, ◌++◌, Bool, true, false, Option, None, Some, length, map, get_or, is_some, refl, sym, ap, subst, ◌∙◌, append-nil, append_assoc, arith}
 use Rattle.std.specs.Prelude.{All, IsSomeAnd}
 use Rattle.std.proofs.lemmas.List.{length-map}
@@ -15,9 +15,9 @@ use Rattle.ft_image.specs.Passes.{HasReadOn}
 use Rattle.ft_player.specs.declared.seat.Seat.{Seat}
 use Rattle.ft_player.specs.declared.songs.SongVersion.{SongVersion}
 use Rattle.ft_player.specs.declared.songs.Songs.{Songs}
-use Rattle.ft_player.specs.Songs.{placed_of, history_of, version_in, version_at, song_of, song_at}
-use Rattle.ft_player.specs.Seats.{head_in, words_in, owned_by}
-use Rattle.ft_player.specs.Behind.{IsShown, Stands, AreSeated, HasPlayedOn, after_play}
+use Rattle.ft_player.specs.Songs.{placed_of, history_of, version_among, version_at, song_of, song_at}
+use Rattle.ft_player.specs.Seats.{head_in, seat_words, owned_by}
+use Rattle.ft_player.specs.Behind.{IsShown, AreSongsBehind, AreSeated, HasPlayedOn, after_play}
 
 -- ---- versions by their numbers
 
@@ -32,10 +32,10 @@ picked false v placed o p e rest = rest e
 -- a placed version of the history is that of a version of the songs
 pub has_song : (versions : List SongVersion) (number : ℕ) (placed : PlacedVersion)
     → placed_at (placed_of versions) number ≡ Some placed
-    → (x : SongVersion) × (version_in versions number ≡ Some x) × (x.placed ≡ placed)
+    → (x : SongVersion) × (version_among versions number ≡ Some x) × (x.placed ≡ placed)
 has_song [] number placed e = absurd (none-some placed e)
 has_song (v ∷ versions) number placed e =
-    picked (v.placed.version == number) v placed (version_in versions number)
+    picked (v.placed.version == number) v placed (version_among versions number)
     (placed_at (placed_of versions) number) e (has_song versions number placed)
 
 kept_of : (b : Bool) (v x : SongVersion) (o : Option SongVersion) (P : SongVersion → Type 0)
@@ -46,15 +46,15 @@ kept_of false v x o P e here rest = rest e
 -- what holds of all versions holds of that of a number
 pub each_version : (P : SongVersion → Type 0) (versions : List SongVersion) (number : ℕ)
     (x : SongVersion)
-    → All P versions → version_in versions number ≡ Some x → P x
+    → All P versions → version_among versions number ≡ Some x → P x
 each_version P [] number x all e = absurd (none-some x e)
 each_version P (v ∷ versions) number x all e =
-    kept_of (v.placed.version == number) v x (version_in versions number) P e
+    kept_of (v.placed.version == number) v x (version_among versions number) P e
     (all 0 v (omega arith))
     (each_version P versions number x (All-tail P v versions all))
 
 -- the version that a pass holds is one that is shown
-pub record Held (songs : Songs) (pass : ReaderState) (taken : TakenVersion) : Type 0 where
+pub record HoldsShown (songs : Songs) (pass : ReaderState) (taken : TakenVersion) : Type 0 where
   pub version : SongVersion
   pub found : version_at songs taken.version ≡ Some version
   pub history : placed_at (history_of songs) taken.version ≡ Some version.placed
@@ -68,7 +68,7 @@ taken_at None root is = absurd is
 taken_at (Some placed) root is = (placed, refl, is)
 
 pub held_version : (songs : Songs) (pass : ReaderState) (taken : TakenVersion)
-    → Stands songs pass → pass.notes.held ≡ Some taken → Held songs pass taken
+    → AreSongsBehind songs pass → pass.notes.held ≡ Some taken → HoldsShown songs pass taken
 held_version songs pass taken stands held =
     let at = taken_at (placed_at (history_of songs) taken.version) taken.root
     (stands.agrees.held taken held) in
@@ -84,14 +84,15 @@ held_version songs pass taken stands held =
 -- ---- what a view shows
 
 pub valid : (songs : Songs) (pass : ReaderState) (taken : TakenVersion)
-    → Stands songs pass → pass.notes.held ≡ Some taken → IsValid (song_at songs taken.version)
+    → AreSongsBehind songs pass → pass.notes.held ≡ Some taken
+    → IsValid (song_at songs taken.version)
 valid songs pass taken stands held =
     let h = held_version songs pass taken stands held in
     subst (λ (o : Option SongVersion). IsValid (song_of o)) (sym h.found) h.shown.shows.valid
 
 pub channels : (songs : Songs) (pass : ReaderState) (register : RegisterId) (taken : TakenVersion)
     (seats : List (Option Seat))
-    → Stands songs pass → pass.register ≡ register → pass.notes.held ≡ Some taken
+    → AreSongsBehind songs pass → pass.register ≡ register → pass.notes.held ≡ Some taken
     → length seats ≡ register.sizes.channels
     → (song_at songs taken.version).channels ≡ length (map (is_some {T = Seat}) seats)
 channels songs pass register taken seats stands here held many =
@@ -106,8 +107,8 @@ pub wide : (songs : Songs) (seats : List (Option Seat))
 wide songs seats = length-map seats (owned_by songs) ∙ sym (length-map seats (is_some {T = Seat}))
 
 pub worded : (seats : List (Option Seat))
-    → length (map words_in seats) ≡ length (map (is_some {T = Seat}) seats)
-worded seats = length-map seats words_in ∙ sym (length-map seats (is_some {T = Seat}))
+    → length (map seat_words seats) ≡ length (map (is_some {T = Seat}) seats)
+worded seats = length-map seats seat_words ∙ sym (length-map seats (is_some {T = Seat}))
 
 -- what a channel keeps, by its seat
 pub owned_at : (songs : Songs) (seats : List (Option Seat)) (c : ℕ)
@@ -117,7 +118,7 @@ owned_at songs (seat ∷ seats) zero = refl
 owned_at songs (seat ∷ seats) (suc c) = owned_at songs seats c
 
 pub words_at : (seats : List (Option Seat)) (c : ℕ)
-    → get_or (map words_in seats) c [] ≡ words_in (get_or seats c None)
+    → get_or (map seat_words seats) c [] ≡ seat_words (get_or seats c None)
 words_at [] c = refl
 words_at (seat ∷ seats) zero = refl
 words_at (seat ∷ seats) (suc c) = words_at seats c
@@ -130,7 +131,7 @@ seat_of (Some seat) h e = (seat, refl, same_Some seat.head h e)
 
 pub of_head : (songs : Songs) (pass : ReaderState) (seats : List (Option Seat)) (c : ℕ)
     (h : SampleHead)
-    → AreSeated pass seats → Stands songs pass → head_in (get_or seats c None) ≡ Some h
+    → AreSeated pass seats → AreSongsBehind songs pass → head_in (get_or seats c None) ≡ Some h
     → head_of_owned (get_or (map (owned_by songs) seats) c None) ≡ Some h
 of_head songs pass seats c h seated stands e =
     let s = seat_of (get_or seats c None) h e in

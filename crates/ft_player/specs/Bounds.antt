@@ -1,7 +1,7 @@
 -- What a tick of a player costs at most, in atomic steps.
 use Rattle.std.specs.Prelude.{ℕ, ◌+◌, ◌*◌, ◌/◌}
 
--- a tick of so many frames on so many channels
+-- a tick of that many frames on that many channels
 abbrev pub step_bound : ℕ → ℕ → ℕ
 step_bound channels frames = 64 + 96 * channels + 6 * channels * frames
 

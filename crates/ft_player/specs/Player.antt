@@ -20,7 +20,7 @@ use Rattle.ft_player.specs.declared.seat.Seat.{Seat}
 use Rattle.ft_player.specs.declared.songs.Songs.{Songs}
 use Rattle.ft_player.specs.Songs.{song_at}
 use Rattle.ft_player.specs.Seats.{head_in, pin_in}
-use Rattle.ft_player.specs.Behind.{AreSeated, Stands, shown_by}
+use Rattle.ft_player.specs.Behind.{AreSeated, AreSongsBehind, shown_by}
 
 -- its pass, the state of its song between ticks, what it keeps by channel for the voices, the
 -- voices that were mixed last, and its rate
@@ -38,8 +38,8 @@ abbrev pub KeepsHead : List (Option Seat) → ℕ → SampleHead → Type 0
 KeepsHead seats channel head = head_in (get_or seats channel None) ≡ Some head
 
 -- The player plays the channels of its register, its state is in range, and what the pass holds was
--- taken by it. A pin stands exactly where a voice sounds: it names the sample of the seat, from the
--- version in which the voice began
+-- taken by it. There is a pin exactly where a voice sounds: it names the sample of the seat, from
+-- the version in which the voice began
 pub record IsInOrder (player : PlayerState) : Type 0 where
   pub low : 8000 ≤ player.rate
   pub high : player.rate ≤ 48000
@@ -55,7 +55,7 @@ pub record IsInOrder (player : PlayerState) : Type 0 where
 
 -- ---- what it stands for
 
--- the sequential state, where these songs stand behind the player: each voice has the frames of the
+-- the sequential state, where these songs are behind the player: each voice has the frames of the
 -- version in which it began
 abbrev pub stood_by : Songs → PlayerState → SequentialState
 stood_by songs player = sequential_of player.song (shown_by songs 0 player.seats)
@@ -81,10 +81,10 @@ pub record IsPlayed (songs : Songs) (old new : PlayerState) (report : TickReport
       ≡ voices_of (tick_state_of report.version (song_at songs report.version) old.rate
       (stood_by songs old)).state.lanes
 
--- Whatever stands behind a player after a call stood behind it before, and of it this is true
+-- Whatever is behind a player after a call was behind it before, and of it this is true
 abbrev pub ForAllBehind : PlayerState → PlayerState → (Songs → Type 0) → Type 0
 ForAllBehind old new True =
-    (songs : Songs) → Stands songs new.pass → Stands songs old.pass × True songs
+    (songs : Songs) → AreSongsBehind songs new.pass → AreSongsBehind songs old.pass × True songs
 
 -- ---- looks and takes
 

@@ -1,4 +1,4 @@
--- Frames that stand in a row, and what asking for their words leaves.
+-- Frames in a row, and what asking for their words leaves.
 use Rattle.std.specs.Prelude.{◌≡◌, ◌<◌, ◌≤◌, ◌+◌, ◌-◌, ◌*◌, ℕ, ℤ, pos, Bool, List, length, get_or, FitsSigned}
 use Rattle.ft_types.specs.declared.sample.Sample.{Sample}
 use Rattle.ft_types.specs.Valid.{width_of, IsValidSample}
@@ -9,7 +9,7 @@ use Rattle.ft_image.specs.Passes.{HasReadOn, AreCounted}
 use Rattle.ft_player.specs.declared.seat.Seat.{Seat}
 use Rattle.ft_player.specs.declared.songs.Songs.{Songs}
 use Rattle.ft_player.specs.Seats.{numbers_of, IsSeatOf}
-use Rattle.ft_player.specs.Behind.{Stands}
+use Rattle.ft_player.specs.Behind.{AreSongsBehind}
 
 -- ---- frames in a word
 
@@ -45,7 +45,7 @@ pub record HasFollowed (from to : ℕ) (pass pass_after : ReaderState) (steps st
   pub work : (steps ≤ steps_after)
       × (steps_after ≤ steps + (to - from) + 2 * (body_of to - body_of from))
 
--- The words of so many frames from a place on were asked for, where these were kept
+-- The words of that many frames from a place on were asked for, where these were kept
 pub record HasRun (first many : ℕ) (words : List ℕ) (pass pass_after : ReaderState)
     (steps steps_after : ℕ) : Type 0 where
   pub on : HasReadOn pass pass_after
@@ -56,7 +56,7 @@ pub record HasRun (first many : ℕ) (words : List ℕ) (pass pass_after : Reade
 -- They were asked for by a seat, one after the other, and the last two of them are its kept ones
 pub record HasAskedAll (first many : ℕ) (pass pass_after : ReaderState) (seat seat_after : Seat)
     (steps steps_after : ℕ) : Type 0 where
-  pub seated : (songs : Songs) → Stands songs pass_after → IsSeatOf songs seat
+  pub seated : (songs : Songs) → AreSongsBehind songs pass_after → IsSeatOf songs seat
       → IsSeatOf songs seat_after
   pub rest : seat_after ≡ record seat { words = seat_after.words }
   pub words : numbers_of seat_after.words

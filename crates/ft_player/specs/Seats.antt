@@ -5,7 +5,7 @@ use Rattle.ft_types.specs.Views.{Owned, begun, head_of_owned}
 use Rattle.ft_types.specs.Work.{body_of}
 use Rattle.ft_shared.specs.declared.law.Pin.{Pin}
 use Rattle.ft_image.specs.Values.{frames_word}
-use Rattle.ft_image.specs.Read.{body_at, number_at, sample_root_at}
+use Rattle.ft_image.specs.Read.{body_at, mapped_sample, sample_root_at}
 use Rattle.ft_player.specs.declared.seat.KeptWord.{KeptWord}
 use Rattle.ft_player.specs.declared.seat.KeptWords.{KeptWords}
 use Rattle.ft_player.specs.declared.seat.Seat.{Seat}
@@ -32,9 +32,9 @@ numbers_in (Some newest) (Some older) = newest.number ∷ older.number ∷ []
 abbrev pub numbers_of : KeptWords → List ℕ
 numbers_of words = numbers_in words.newest words.older
 
-abbrev pub words_in : Option Seat → List ℕ
-words_in None = []
-words_in (Some seat) = numbers_of seat.words
+abbrev pub seat_words : Option Seat → List ℕ
+seat_words None = []
+seat_words (Some seat) = numbers_of seat.words
 
 -- with other kept words
 abbrev pub reworded : KeptWords → Option Seat → Option Seat
@@ -50,18 +50,18 @@ owned_by songs (Some seat) =
     begun seat.version (song_at songs seat.version) seat.instrument seat.note
 
 -- its frames
-abbrev pub frames_in : Option Owned → List ℤ
-frames_in None = []
-frames_in (Some owned) = owned.sample.frames
+abbrev pub owned_frames : Option Owned → List ℤ
+owned_frames None = []
+owned_frames (Some owned) = owned.sample.frames
 
 abbrev pub frames_by : Songs → Seat → List ℤ
-frames_by songs seat = frames_in (owned_by songs (Some seat))
+frames_by songs seat = owned_frames (owned_by songs (Some seat))
 
 -- A word is kept: as the last one or as the one before it
-abbrev pub IsKept : KeptWords → KeptWord → Type 0
-IsKept words word = (words.newest ≡ Some word) ⊎ (words.older ≡ Some word)
+abbrev pub IsWordKept : KeptWords → KeptWord → Type 0
+IsWordKept words word = (words.newest ≡ Some word) ⊎ (words.older ≡ Some word)
 
--- A word is that of the sample, and stands in this body of it
+-- A word is that of the sample, and is in this body of it
 pub record IsWordOf (songs : Songs) (seat : Seat) (word : KeptWord) : Type 0 where
   pub value : word.value ≡ frames_word (frames_by songs seat) word.number
   pub body : word.body
@@ -71,8 +71,8 @@ pub record IsWordOf (songs : Songs) (seat : Seat) (word : KeptWord) : Type 0 whe
 pub record IsSeatOf (songs : Songs) (seat : Seat) : Type 0 where
   pub head : head_of_owned (owned_by songs (Some seat)) ≡ Some seat.head
   pub root : sample_root_at (place_at songs seat.version) seat.instrument
-      (number_at (song_at songs seat.version) seat.instrument seat.note) ≡ Some seat.root
-  pub kept : (word : KeptWord) → IsKept seat.words word → IsWordOf songs seat word
+      (mapped_sample (song_at songs seat.version) seat.instrument seat.note) ≡ Some seat.root
+  pub kept : (word : KeptWord) → IsWordKept seat.words word → IsWordOf songs seat word
 
 abbrev pub IsSeated : Songs → Option Seat → Type 0
 IsSeated songs place = (seat : Seat) → place ≡ Some seat → IsSeatOf songs seat

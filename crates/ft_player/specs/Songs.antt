@@ -1,9 +1,9 @@
--- The versions of a song that may stand behind a player.
+-- The versions of a song that may be behind a player.
 use Rattle.std.specs.Prelude.{ℕ, ◌==◌, if◌then◌else◌, List, [], ◌∷◌, Option, Some, None, map, replicate, false}
 use Rattle.ft_types.specs.declared.module.Module.{Module}
 use Rattle.ft_segments.specs.Walk.{Placed}
 use Rattle.ft_shared.specs.declared.law.PlacedVersion.{PlacedVersion}
-use Rattle.ft_shared.specs.History.{place_of}
+use Rattle.ft_shared.specs.History.{root_and_pool}
 use Rattle.ft_player.specs.declared.songs.SongVersion.{SongVersion}
 use Rattle.ft_player.specs.declared.songs.Songs.{Songs}
 
@@ -15,13 +15,13 @@ abbrev pub history_of : Songs → List PlacedVersion
 history_of songs = placed_of songs.versions
 
 -- the version of a number
-abbrev pub version_in : List SongVersion → ℕ → Option SongVersion
-version_in [] number = None
-version_in (version ∷ versions) number =
-    if version.placed.version == number then Some version else version_in versions number
+abbrev pub version_among : List SongVersion → ℕ → Option SongVersion
+version_among [] number = None
+version_among (version ∷ versions) number =
+    if version.placed.version == number then Some version else version_among versions number
 
 abbrev pub version_at : Songs → ℕ → Option SongVersion
-version_at songs number = version_in songs.versions number
+version_at songs number = version_among songs.versions number
 
 -- a song of nothing, and words of nothing, where there is no such version
 abbrev pub no_song : Module
@@ -44,7 +44,7 @@ song_of (Some version) = version.song
 
 abbrev pub place_in : Option SongVersion → Placed
 place_in None = record { root = 0; pool = [] }
-place_in (Some version) = place_of version.placed
+place_in (Some version) = root_and_pool version.placed
 
 -- the song of a version, and its root and words, by its number
 abbrev pub song_at : Songs → ℕ → Module

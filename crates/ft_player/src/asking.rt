@@ -13,8 +13,8 @@ ghost use Rattle.ft_player.specs.declared.seat.KeptWord.{KeptWord as AWord};
 ghost use Rattle.ft_player.specs.declared.seat.KeptWords.{KeptWords as TheWords};
 ghost use Rattle.ft_player.specs.declared.songs.Songs.{Songs};
 ghost use Rattle.ft_player.specs.Songs.{place_at};
-ghost use Rattle.ft_player.specs.Seats.{head_in, pin_in, words_in, numbers_of, owned_by, frames_by, reworded, IsWordOf, IsSeatOf, IsSeated};
-ghost use Rattle.ft_player.specs.Behind.{Stands};
+ghost use Rattle.ft_player.specs.Seats.{head_in, pin_in, seat_words, numbers_of, owned_by, frames_by, reworded, IsWordOf, IsSeatOf, IsSeated};
+ghost use Rattle.ft_player.specs.Behind.{AreSongsBehind};
 ghost use Rattle.ft_player.specs.Asked.{HasAsked};
 
 use crate::laws::songs_agree_with_earlier_notes;
@@ -43,7 +43,8 @@ pub fn far_body<L: Ledger>(
     requires here { pass.old.register ≡ shared.now }
     requires pinned { pin_of pass.old.notes channel ≡ pin_in (Some seat.now) }
     requires inside { place < seat.now.head.frames }
-    ensures body { (songs : Songs) → Stands songs pass.new → IsSeatOf songs seat.now → result
+    ensures body { (songs : Songs) → AreSongsBehind songs pass.new → IsSeatOf songs seat.now
+        → result
         ≡ body_at (place_at songs seat.now.version).pool seat.now.root
         (work_of.body_of (work_of.word_of place)) }
     ensures on { HasReadOn pass.old pass.new }
@@ -73,7 +74,8 @@ fn body_for<L: Ledger>(
     requires here { pass.old.register ≡ shared.now }
     requires pinned { pin_of pass.old.notes channel ≡ pin_in (Some seat.now) }
     requires inside { place < seat.now.head.frames }
-    ensures body { (songs : Songs) → Stands songs pass.new → IsSeatOf songs seat.now → result
+    ensures body { (songs : Songs) → AreSongsBehind songs pass.new → IsSeatOf songs seat.now
+        → result
         ≡ body_at (place_at songs seat.now.version).pool seat.now.root
         (work_of.body_of (work_of.word_of place)) }
     ensures on { HasReadOn pass.old pass.new }
@@ -103,7 +105,7 @@ pub fn read_word<L: Ledger>(
     requires pinned { pin_of pass.old.notes channel ≡ pin_in (Some seat.now) }
     requires inside { place < seat.now.head.frames }
     ensures number { result.number ≡ work_of.word_of place }
-    ensures word { (songs : Songs) → Stands songs pass.new → IsSeatOf songs seat.now → body
+    ensures word { (songs : Songs) → AreSongsBehind songs pass.new → IsSeatOf songs seat.now → body
         ≡ body_at (place_at songs seat.now.version).pool seat.now.root
         (work_of.body_of (work_of.word_of place))
         → IsWordOf songs seat.now result }
@@ -144,7 +146,7 @@ fn other_word<L: Ledger>(
     requires other { (word : AWord) → seat.now.words.newest ≡ Some word
         → word.number ≢ work_of.word_of place }
     ensures number { result.number ≡ work_of.word_of place }
-    ensures word { (songs : Songs) → Stands songs pass.new → IsSeatOf songs seat.now
+    ensures word { (songs : Songs) → AreSongsBehind songs pass.new → IsSeatOf songs seat.now
         → IsWordOf songs seat.now result }
     ensures on { HasReadOn pass.old pass.new }
     ensures counted { AreCounted pass.old pass.new steps.old steps.new }
@@ -175,7 +177,7 @@ fn bring<L: Ledger>(
     requires inside { place < seat.old.head.frames }
     requires other { (word : AWord) → seat.old.words.newest ≡ Some word
         → word.number ≢ work_of.word_of place }
-    ensures word { (songs : Songs) → Stands songs pass.new → IsSeatOf songs seat.old
+    ensures word { (songs : Songs) → AreSongsBehind songs pass.new → IsSeatOf songs seat.old
         → result ≡ frames_word (frames_by songs seat.old) (work_of.word_of place) }
     ensures asked { HasAsked place pass.old pass.new seat.old seat.new steps.old steps.new }
 {
@@ -197,7 +199,7 @@ pub fn word_for<L: Ledger>(
     requires here { pass.old.register ≡ shared.now }
     requires pinned { pin_of pass.old.notes channel ≡ pin_in (Some seat.old) }
     requires inside { place < seat.old.head.frames }
-    ensures word { (songs : Songs) → Stands songs pass.new → IsSeatOf songs seat.old
+    ensures word { (songs : Songs) → AreSongsBehind songs pass.new → IsSeatOf songs seat.old
         → result ≡ frames_word (frames_by songs seat.old) (work_of.word_of place) }
     ensures asked { HasAsked place pass.old pass.new seat.old seat.new steps.old steps.new }
 {
@@ -222,7 +224,7 @@ fn ask_seat<L: Ledger>(
     requires here { pass.old.register ≡ shared.now }
     requires pinned { pin_of pass.old.notes channel ≡ pin_in (Some seat.old) }
     requires inside { place < seat.old.head.frames }
-    ensures value { (songs : Songs) → Stands songs pass.new → IsSeatOf songs seat.old
+    ensures value { (songs : Songs) → AreSongsBehind songs pass.new → IsSeatOf songs seat.old
         → result ≡ frame_of (owned_by songs (Some seat.old)) place }
     ensures range { FitsSigned (width_of seat.old.head.wide) result }
     ensures asked { HasAsked place pass.old pass.new seat.old seat.new steps.old steps.new }
@@ -245,19 +247,19 @@ fn ask_one<L: Ledger>(
     requires here { pass.old.register ≡ shared.now }
     requires pinned { pin_of pass.old.notes channel ≡ pin_in seat.old }
     requires inside { (h : Head) × (head_in seat.old ≡ Some h) × (place < h.frames) }
-    ensures value { (songs : Songs) → Stands songs pass.new → IsSeated songs seat.old
+    ensures value { (songs : Songs) → AreSongsBehind songs pass.new → IsSeated songs seat.old
         → result ≡ frame_of (owned_by songs seat.old) place }
     ensures range { (h : Head) → head_in seat.old ≡ Some h → FitsSigned (width_of h.wide) result }
-    ensures seated { (songs : Songs) → Stands songs pass.new → IsSeated songs seat.old
+    ensures seated { (songs : Songs) → AreSongsBehind songs pass.new → IsSeated songs seat.old
         → IsSeated songs seat.new }
     ensures rest { (words : TheWords) × (seat.new ≡ reworded words seat.old) }
-    ensures words { words_in seat.new
-        ≡ work_of.asked (work_of.word_of place) (words_in seat.old) }
+    ensures words { seat_words seat.new
+        ≡ work_of.asked (work_of.word_of place) (seat_words seat.old) }
     ensures on { HasReadOn pass.old pass.new }
     ensures counted { AreCounted pass.old pass.new steps.old steps.new }
     ensures work { (steps.old ≤ steps.new) × (steps.new ≤ steps.old + work_of.frame_bound) }
     ensures cost { steps.new ≤ steps.old
-        + work_of.frame_cost (work_of.word_of place) (words_in seat.old) }
+        + work_of.frame_cost (work_of.word_of place) (seat_words seat.old) }
 {
     let Some(found) = seat else {
         return 0;
@@ -281,24 +283,24 @@ pub fn ask<L: Ledger>(
         ≡ pin_in (get_or seats.old.items channel None) }
     requires inside { (h : Head) × (head_in (get_or seats.old.items channel None) ≡ Some h)
         × (place < h.frames) }
-    ensures value { (songs : Songs) → Stands songs pass.new
+    ensures value { (songs : Songs) → AreSongsBehind songs pass.new
         → IsSeated songs (get_or seats.old.items channel None)
         → result ≡ frame_of (owned_by songs (get_or seats.old.items channel None)) place }
     ensures range { (h : Head) → head_in (get_or seats.old.items channel None) ≡ Some h
         → FitsSigned (width_of h.wide) result }
-    ensures seated { (songs : Songs) → Stands songs pass.new
+    ensures seated { (songs : Songs) → AreSongsBehind songs pass.new
         → IsSeated songs (get_or seats.old.items channel None)
         → IsSeated songs (get_or seats.new.items channel None) }
     ensures rest { (words : TheWords) × (seats.new.items
         ≡ set seats.old.items channel (reworded words (get_or seats.old.items channel None))) }
-    ensures words { words_in (get_or seats.new.items channel None)
+    ensures words { seat_words (get_or seats.new.items channel None)
         ≡ work_of.asked (work_of.word_of place)
-        (words_in (get_or seats.old.items channel None)) }
+        (seat_words (get_or seats.old.items channel None)) }
     ensures on { HasReadOn pass.old pass.new }
     ensures counted { AreCounted pass.old pass.new steps.old steps.new }
     ensures work { (steps.old ≤ steps.new) × (steps.new ≤ steps.old + work_of.frame_bound) }
     ensures cost { steps.new ≤ steps.old + work_of.frame_cost (work_of.word_of place)
-        (words_in (get_or seats.old.items channel None)) }
+        (seat_words (get_or seats.old.items channel None)) }
 {
     let slot = &mut seats.as_mut_slice()[usize::from(channel)];
     ask_one(shared, pass, slot, channel, place, steps)

@@ -7,7 +7,7 @@ ghost use Rattle.ft_types.specs.Work as work_of;
 ghost use Rattle.ft_image.specs.Passes.{HasReadOn, AreCounted};
 ghost use Rattle.ft_player.specs.declared.songs.Songs.{Songs};
 ghost use Rattle.ft_player.specs.Songs.{song_at};
-ghost use Rattle.ft_player.specs.Behind.{Holds, Stands};
+ghost use Rattle.ft_player.specs.Behind.{Holds, AreSongsBehind};
 
 use crate::ranges::{ranged_cell, ranged_envelope, ranged_rows, ranged_shape, ranged_song_head};
 use ft_image::{PassWords, cell, envelope, head, order, rows, shape};
@@ -25,7 +25,7 @@ pub fn held_head<L: Ledger>(
     requires here { pass.old.register ≡ shared.now }
     requires held { IsSome pass.old.notes.held }
     ensures value { (songs : Songs) (version : ℕ) → Holds pass.old version root
-        → Stands songs pass.new → result ≡ song_head_of (song_at songs version) }
+        → AreSongsBehind songs pass.new → result ≡ song_head_of (song_at songs version) }
     ensures range { IsValidSongHead result }
     ensures on { HasReadOn pass.old pass.new }
     ensures counted { AreCounted pass.old pass.new steps.old steps.new }
@@ -51,7 +51,7 @@ pub fn held_order<L: Ledger>(
     requires here { pass.old.register ≡ shared.now }
     requires held { IsSome pass.old.notes.held }
     ensures value { (songs : Songs) (version : ℕ) → Holds pass.old version root
-        → Stands songs pass.new → pos < length (song_at songs version).orders
+        → AreSongsBehind songs pass.new → pos < length (song_at songs version).orders
         → result ≡ order_at (song_at songs version) pos }
     ensures on { HasReadOn pass.old pass.new }
     ensures counted { AreCounted pass.old pass.new steps.old steps.new }
@@ -76,7 +76,7 @@ pub fn held_rows<L: Ledger>(
     requires here { pass.old.register ≡ shared.now }
     requires held { IsSome pass.old.notes.held }
     ensures value { (songs : Songs) (version : ℕ) → Holds pass.old version root
-        → Stands songs pass.new → result ≡ rows_at (song_at songs version) pattern }
+        → AreSongsBehind songs pass.new → result ≡ rows_at (song_at songs version) pattern }
     ensures some { 1 ≤ result }
     ensures few { result ≤ 256 }
     ensures on { HasReadOn pass.old pass.new }
@@ -105,7 +105,8 @@ pub fn held_cell<L: Ledger>(
     requires held { IsSome pass.old.notes.held }
     requires channel { channel < shared.now.sizes.channels }
     ensures value { (songs : Songs) (version : ℕ) → Holds pass.old version root
-        → Stands songs pass.new → result ≡ cell_at (song_at songs version) pattern row channel }
+        → AreSongsBehind songs pass.new
+        → result ≡ cell_at (song_at songs version) pattern row channel }
     ensures range { IsValidCell result }
     ensures on { HasReadOn pass.old pass.new }
     ensures counted { AreCounted pass.old pass.new steps.old steps.new }
@@ -133,7 +134,7 @@ pub fn held_envelope<L: Ledger>(
     requires held { IsSome pass.old.notes.held }
     requires which { which ≤ 1 }
     ensures value { (songs : Songs) (version : ℕ) → Holds pass.old version root
-        → Stands songs pass.new
+        → AreSongsBehind songs pass.new
         → result ≡ envelope_in (instrument_at (song_at songs version) instrument) which }
     ensures range { IfSome result IsValidEnvelope }
     ensures on { HasReadOn pass.old pass.new }
@@ -159,7 +160,7 @@ pub fn held_shape<L: Ledger>(
     requires here { pass.old.register ≡ shared.now }
     requires held { IsSome pass.old.notes.held }
     ensures value { (songs : Songs) (version : ℕ) → Holds pass.old version root
-        → Stands songs pass.new
+        → AreSongsBehind songs pass.new
         → result ≡ shape_in (instrument_at (song_at songs version) instrument) }
     ensures range { IfSome result IsValidShape }
     ensures on { HasReadOn pass.old pass.new }

@@ -1,4 +1,4 @@
-//! Frames that stand in a row, which channels ask for at once.
+//! Frames in a row, which channels ask for at once.
 
 ghost use Rattle.std.specs.Prelude.{◌≡◌, ◌≢◌, ◌≤◌, ◌<◌, ◌+◌, ◌-◌, ◌*◌, ◌/◌, ◌%◌, ◌^◌, ◌∷◌, [], ℕ, None, Some, length, get_or, set};
 ghost use Rattle.ft_types.specs.declared.voice.SampleHead.{SampleHead as Head};
@@ -11,8 +11,8 @@ ghost use Rattle.ft_player.specs.declared.seat.KeptWord.{KeptWord as AWord};
 ghost use Rattle.ft_player.specs.declared.seat.KeptWords.{KeptWords as TheWords};
 ghost use Rattle.ft_player.specs.declared.songs.Songs.{Songs};
 ghost use Rattle.ft_player.specs.Songs.{place_at};
-ghost use Rattle.ft_player.specs.Seats.{head_in, pin_in, words_in, numbers_of, owned_by, reworded, IsKept, IsWordOf, IsSeatOf, IsSeated};
-ghost use Rattle.ft_player.specs.Behind.{Stands};
+ghost use Rattle.ft_player.specs.Seats.{head_in, pin_in, seat_words, numbers_of, owned_by, reworded, IsWordKept, IsWordOf, IsSeatOf, IsSeated};
+ghost use Rattle.ft_player.specs.Behind.{AreSongsBehind};
 ghost use Rattle.ft_player.specs.Runs.{IsFrameIn, AreFramesIn, HasUnpacked, HasFollowed, HasRun, HasAskedAll};
 
 use crate::asking::{far_body, read_word, word_for};
@@ -110,7 +110,7 @@ fn next_body<L: Ledger>(
     requires pinned { pin_of pass.old.notes channel ≡ pin_in (Some seat.now) }
     requires few { 4 * (word.number + 1) < 2 ^ 32 }
     requires inside { 4 * (word.number + 1) < seat.now.head.frames }
-    ensures body { (songs : Songs) → Stands songs pass.new → IsSeatOf songs seat.now
+    ensures body { (songs : Songs) → AreSongsBehind songs pass.new → IsSeatOf songs seat.now
         → IsWordOf songs seat.now word → result
         ≡ body_at (place_at songs seat.now.version).pool seat.now.root
         (work_of.body_of (word.number + 1)) }
@@ -141,7 +141,7 @@ fn next_word<L: Ledger>(
     requires few { 4 * (word.number + 1) < 2 ^ 32 }
     requires inside { 4 * (word.number + 1) < seat.now.head.frames }
     ensures number { result.number ≡ word.number + 1 }
-    ensures word { (songs : Songs) → Stands songs pass.new → IsSeatOf songs seat.now
+    ensures word { (songs : Songs) → AreSongsBehind songs pass.new → IsSeatOf songs seat.now
         → IsWordOf songs seat.now word → IsWordOf songs seat.now result }
     ensures on { HasReadOn pass.old pass.new }
     ensures counted { AreCounted pass.old pass.new steps.old steps.new }
@@ -169,7 +169,7 @@ fn follow_whole<L: Ledger>(
     requires whole { length out.old % 4 ≡ 0 }
     requires few { 4 * (from.number + 1) + length out.old < 2 ^ 32 }
     requires inside { 4 * (from.number + 1) + length out.old ≤ seat.now.head.frames }
-    ensures words { (songs : Songs) → Stands songs pass.new → IsSeatOf songs seat.now
+    ensures words { (songs : Songs) → AreSongsBehind songs pass.new → IsSeatOf songs seat.now
         → IsWordOf songs seat.now from
         → IsWordOf songs seat.now result.newest × IsWordOf songs seat.now result.older
         × AreFramesFrom (owned_by songs (Some seat.now)) (4 * (from.number + 1)) out.new }
@@ -212,9 +212,9 @@ fn follow<L: Ledger>(
     requires some { 1 ≤ length out.old }
     requires few { 4 * (from.number + 1) + length out.old < 2 ^ 32 }
     requires inside { 4 * (from.number + 1) + length out.old ≤ seat.now.head.frames }
-    ensures words { (songs : Songs) → Stands songs pass.new → IsSeatOf songs seat.now
+    ensures words { (songs : Songs) → AreSongsBehind songs pass.new → IsSeatOf songs seat.now
         → IsWordOf songs seat.now from
-        → ((word : AWord) → IsKept result word → IsWordOf songs seat.now word)
+        → ((word : AWord) → IsWordKept result word → IsWordOf songs seat.now word)
         × AreFramesFrom (owned_by songs (Some seat.now)) (4 * (from.number + 1)) out.new }
     ensures range { FitWidth seat.now.head.wide out.new }
     ensures many { length out.new ≡ length out.old }
@@ -268,7 +268,7 @@ fn run_seat<L: Ledger>(
     requires pinned { pin_of pass.old.notes channel ≡ pin_in (Some seat.old) }
     requires some { 1 ≤ length out.old }
     requires inside { first + length out.old ≤ seat.old.head.frames }
-    ensures values { (songs : Songs) → Stands songs pass.new → IsSeatOf songs seat.old
+    ensures values { (songs : Songs) → AreSongsBehind songs pass.new → IsSeatOf songs seat.old
         → AreFramesFrom (owned_by songs (Some seat.old)) first out.new }
     ensures range { FitWidth seat.old.head.wide out.new }
     ensures many { length out.new ≡ length out.old }
@@ -307,16 +307,16 @@ fn run_one<L: Ledger>(
     requires some { 1 ≤ length out.old }
     requires inside { (h : Head) × (head_in seat.old ≡ Some h)
         × (first + length out.old ≤ h.frames) }
-    ensures values { (songs : Songs) → Stands songs pass.new → IsSeated songs seat.old
+    ensures values { (songs : Songs) → AreSongsBehind songs pass.new → IsSeated songs seat.old
         → AreFramesFrom (owned_by songs seat.old) first out.new }
     ensures range { (h : Head) → head_in seat.old ≡ Some h → FitWidth h.wide out.new }
     ensures many { length out.new ≡ length out.old }
-    ensures seated { (songs : Songs) → Stands songs pass.new → IsSeated songs seat.old
+    ensures seated { (songs : Songs) → AreSongsBehind songs pass.new → IsSeated songs seat.old
         → IsSeated songs seat.new }
     ensures rest { (words : TheWords) × (seat.new ≡ reworded words seat.old) }
-    ensures words { words_in seat.new ≡ work_of.asked_all (work_of.word_of first)
-        (work_of.last_word first (length out.old)) (words_in seat.old) }
-    ensures run { HasRun first (length out.old) (words_in seat.old) pass.old pass.new
+    ensures words { seat_words seat.new ≡ work_of.asked_all (work_of.word_of first)
+        (work_of.last_word first (length out.old)) (seat_words seat.old) }
+    ensures run { HasRun first (length out.old) (seat_words seat.old) pass.old pass.new
         steps.old steps.new }
 {
     let Some(found) = seat else {
@@ -344,22 +344,22 @@ pub fn run_of<L: Ledger>(
     requires some { 1 ≤ length out.old }
     requires inside { (h : Head) × (head_in (get_or seats.old.items channel None) ≡ Some h)
         × (first + length out.old ≤ h.frames) }
-    ensures values { (songs : Songs) → Stands songs pass.new
+    ensures values { (songs : Songs) → AreSongsBehind songs pass.new
         → IsSeated songs (get_or seats.old.items channel None)
         → AreFramesFrom (owned_by songs (get_or seats.old.items channel None)) first out.new }
     ensures range { (h : Head) → head_in (get_or seats.old.items channel None) ≡ Some h
         → FitWidth h.wide out.new }
     ensures many { length out.new ≡ length out.old }
-    ensures seated { (songs : Songs) → Stands songs pass.new
+    ensures seated { (songs : Songs) → AreSongsBehind songs pass.new
         → IsSeated songs (get_or seats.old.items channel None)
         → IsSeated songs (get_or seats.new.items channel None) }
     ensures rest { (words : TheWords) × (seats.new.items
         ≡ set seats.old.items channel (reworded words (get_or seats.old.items channel None))) }
-    ensures words { words_in (get_or seats.new.items channel None)
+    ensures words { seat_words (get_or seats.new.items channel None)
         ≡ work_of.asked_all (work_of.word_of first) (work_of.last_word first (length out.old))
-        (words_in (get_or seats.old.items channel None)) }
+        (seat_words (get_or seats.old.items channel None)) }
     ensures run { HasRun first (length out.old)
-        (words_in (get_or seats.old.items channel None)) pass.old pass.new
+        (seat_words (get_or seats.old.items channel None)) pass.old pass.new
         steps.old steps.new }
 {
     let slot = &mut seats.as_mut_slice()[usize::from(channel)];

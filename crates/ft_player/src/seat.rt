@@ -3,11 +3,11 @@
 ghost use Rattle.std.specs.Prelude.{◌≡◌, ◌≢◌, ◌⊎◌, [], true, false, Some, MatchOption};
 ghost use Rattle.ft_types.specs.Work as work_of;
 ghost use Rattle.ft_player.specs.declared.seat.KeptWord.{KeptWord as AWord};
-ghost use Rattle.ft_player.specs.Seats.{numbers_of, IsKept};
+ghost use Rattle.ft_player.specs.Seats.{numbers_of, IsWordKept};
 
 use ft_types::SampleHead;
 
-/// A word of frames that was read, and where it stands.
+/// A word of frames that was read, and where it is.
 #[derive(Clone, Copy)]
 pub struct KeptWord {
     /// Its number in the sample, four frames each.
@@ -31,7 +31,7 @@ impl KeptWords {
     /// No word.
     pub fn none() -> KeptWords
         ensures numbers { numbers_of result ≡ [] }
-        ensures kept { (word : AWord) → IsKept result word → ⊥ }
+        ensures kept { (word : AWord) → IsWordKept result word → ⊥ }
     {
         KeptWords {
             newest: None,
@@ -45,7 +45,7 @@ impl KeptWords {
         requires { (word : AWord) → self.now.newest ≡ Some word → word.number ≢ number }
         ensures { MatchOption result (work_of.is_kept number (numbers_of self.now) ≡ false)
             (λ word. (work_of.is_kept number (numbers_of self.now) ≡ true)
-            × (word.number ≡ number) × IsKept self.now word) }
+            × (word.number ≡ number) × IsWordKept self.now word) }
     {
         if self.newest.is_none() {
             return None;
@@ -64,7 +64,7 @@ impl KeptWords {
     pub fn near(&self, number: u32) -> Option<KeptWord>
         ensures { MatchOption result (work_of.is_near number (numbers_of self.now) ≡ false)
             (λ word. (work_of.is_near number (numbers_of self.now) ≡ true)
-            × (work_of.body_of word.number ≡ work_of.body_of number) × IsKept self.now word) }
+            × (work_of.body_of word.number ≡ work_of.body_of number) × IsWordKept self.now word) }
     {
         let Some(newest) = self.newest else {
             return None;
@@ -86,8 +86,8 @@ impl KeptWords {
     pub fn put(&mut self, word: KeptWord)
         requires { (other : AWord) → self.old.newest ≡ Some other → other.number ≢ word.number }
         ensures numbers { numbers_of self.new ≡ work_of.asked word.number (numbers_of self.old) }
-        ensures kept { (other : AWord) → IsKept self.new other
-            → (other ≡ word) ⊎ IsKept self.old other }
+        ensures kept { (other : AWord) → IsWordKept self.new other
+            → (other ≡ word) ⊎ IsWordKept self.old other }
     {
         self.older = self.newest;
         self.newest = Some(word);

@@ -5,7 +5,7 @@ ghost use Rattle.std.specs.Prelude.{◌≡◌, ◌≤◌, None, replicate};
 use crate::seat::Seat;
 use arrayvec::ArrayVec;
 
-/// So many seats, on which nothing sounds.
+/// That many seats, on which nothing sounds.
 pub(crate) fn no_seats(channels: u8) -> ArrayVec<Option<Seat>, 32>
     requires { channels ≤ 32 }
     ensures { result.items ≡ replicate channels None }

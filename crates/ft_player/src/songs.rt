@@ -1,4 +1,4 @@
-//! What may stand behind a player. No running code makes a value of these.
+//! What may be behind a player. No running code makes a value of these.
 
 use ft_shared::PlacedVersion;
 use ft_types::Module;

@@ -8,7 +8,7 @@ ghost use Rattle.ft_player.specs.declared.seat.Seat.{Seat as ASeat};
 ghost use Rattle.ft_player.specs.declared.songs.Songs.{Songs};
 ghost use Rattle.ft_player.specs.Songs.{song_at};
 ghost use Rattle.ft_player.specs.Seats.{head_in, pin_in, numbers_of, owned_by, IsSeatOf};
-ghost use Rattle.ft_player.specs.Behind.{Holds, Stands, HasPlayedOn};
+ghost use Rattle.ft_player.specs.Behind.{Holds, AreSongsBehind, HasPlayedOn};
 
 use crate::ranges::can_sound;
 use crate::seat::{KeptWords, Seat};
@@ -32,9 +32,9 @@ pub fn begun_seat<L: Ledger>(
     requires here { pass.old.register ≡ shared.now }
     requires held { Holds pass.old version root }
     requires note { note < 96 }
-    ensures begins { (songs : Songs) → Stands songs pass.new
+    ensures begins { (songs : Songs) → AreSongsBehind songs pass.new
         → owned_by songs result ≡ begun version (song_at songs version) instrument note }
-    ensures seated { (songs : Songs) (seat : ASeat) → Stands songs pass.new
+    ensures seated { (songs : Songs) (seat : ASeat) → AreSongsBehind songs pass.new
         → result ≡ Some seat → IsSeatOf songs seat }
     ensures new { IfSome result (λ seat. (seat.version ≡ version)
         × (seat.root < shared.now.sizes.segments) × (numbers_of seat.words ≡ [])

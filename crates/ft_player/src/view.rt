@@ -4,9 +4,9 @@ ghost use Rattle.std.specs.Prelude.{◌≡◌, Some, None, length, get_or, is_so
 ghost use Rattle.std.proofs.Common.{◌∙◌};
 ghost use Rattle.ft_image.specs.Passes.{AreCounted};
 ghost use Rattle.ft_image.specs.PassLaws.{counted_through};
-ghost use Rattle.ft_player.specs.Seats.{head_in, pin_in, words_in};
+ghost use Rattle.ft_player.specs.Seats.{head_in, pin_in, seat_words};
 ghost use Rattle.ft_player.specs.BehindLaws as laws;
-ghost use Rattle.ft_player.specs.Behind.{Holds, Stands, AreSeated, shown_by, HasPlayedOn};
+ghost use Rattle.ft_player.specs.Behind.{Holds, AreSongsBehind, AreSeated, shown_by, HasPlayedOn};
 
 use crate::asking::ask;
 use crate::laws::songs_agree_with_earlier_notes;
@@ -23,7 +23,7 @@ use std::sync::ledger::Ledger;
 /// Shows the version that a reader's pass holds, and keeps for each channel the sample that its
 /// voice began with, by a pin: the sample is that of the version in which the voice began.
 ///
-/// What may stand behind it are all versions of songs that agree with what the pass noted and whose
+/// What may be behind it are all versions of songs that agree with what the pass noted and whose
 /// words show their songs. No call looks or takes.
 #[derive(Drop)]
 pub struct PlayerView<'a, 'b, 'c, 'd, L: Ledger> {
@@ -49,7 +49,7 @@ pub struct PlayerView<'a, 'b, 'c, 'd, L: Ledger> {
 impl<'a, 'b, 'c, 'd, L: Ledger> SongView for PlayerView<'a, 'b, 'c, 'd, L> {
     type World = Songs;
 
-    ghost shows = { λ v w. Stands w v.pass.now };
+    ghost shows = { λ v w. AreSongsBehind w v.pass.now };
 
     ghost shown = { λ v w. shown_by w v.version v.seats.now.items };
 
@@ -57,7 +57,7 @@ impl<'a, 'b, 'c, 'd, L: Ledger> SongView for PlayerView<'a, 'b, 'c, 'd, L> {
 
     ghost keeps = { λ v c h. head_in (get_or v.seats.now.items c None) ≡ Some h };
 
-    ghost words = { λ v. map words_in v.seats.now.items };
+    ghost words = { λ v. map seat_words v.seats.now.items };
 
     ghost work = { λ v. v.steps.now };
 

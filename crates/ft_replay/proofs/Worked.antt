@@ -117,7 +117,7 @@ on_its_way_back = refl
 
 -- ---- how long ticks are
 
--- the frames of so many ticks, one after the other
+-- the frames of that many ticks, one after the other
 ticks_at : ℕ → ℕ → Control → List ℕ
 ticks_at zero rate control = []
 ticks_at (suc ticks) rate control = tick_frames rate control ∷ ticks_at ticks rate (with_carry rate control)

@@ -1,4 +1,4 @@
--- What a call over a view does, for whatever may stand behind the view after it.
+-- What a call over a view does, for whatever may be behind the view after it.
 use Rattle.std.specs.Prelude.{ℕ, ◌≡◌, ◌≢◌, ◌==◌, ◌||◌, All, List, [], ◌∷◌, Bool, false, Option, None, Some, get_or, set, length, is_some, ◌<◌}
 use Rattle.ft_types.specs.declared.module.Module.{Module}
 use Rattle.ft_types.specs.declared.voice.SampleHead.{SampleHead}
@@ -9,7 +9,7 @@ use Rattle.ft_replay.specs.declared.state.Control.{Control}
 use Rattle.ft_replay.specs.State.{Lane, SequentialState, Turn, blank_channel}
 use Rattle.ft_replay.specs.Standing.{lane_of, turn_of, Became, Turned, Made}
 
--- ---- by what stands behind the view
+-- ---- by what is behind the view
 
 -- one channel's lane becomes what a rule makes of it
 abbrev pub Changes : {V W : Type 0} → (V → W → Type 0) → (V → W → Shown)
@@ -20,9 +20,9 @@ Changes {W = W} shows shown rule c view view_after channel channel_after =
     (shown view w) (shown view_after w) channel_after
 
 -- one channel's turn becomes what a rule makes of it
-abbrev pub Turns : {V W : Type 0} → (V → W → Type 0) → (V → W → Shown)
+abbrev pub MakesTurn : {V W : Type 0} → (V → W → Type 0) → (V → W → Shown)
     → (ℕ → Module → ℕ → Turn → Turn) → ℕ → V → V → Channel → Channel → Control → Control → Type 0
-Turns {W = W} shows shown rule c view view_after channel channel_after control control_after =
+MakesTurn {W = W} shows shown rule c view view_after channel channel_after control control_after =
     (w : W) → shows view_after w → shows view w
     × Turned c
     (rule (shown view w).version (shown view w).song c
@@ -48,9 +48,9 @@ ShowsOn {W = W} shows shown view view_after =
 -- ---- it might show before
 
 -- of which one channel's turn is made
-abbrev pub TurnsShown : {V W : Type 0} → (V → W → Type 0) → (V → W → Shown)
+abbrev pub MakesTurnShown : {V W : Type 0} → (V → W → Type 0) → (V → W → Shown)
     → (ℕ → Module → ℕ → Turn → Turn) → ℕ → V → V → Channel → Channel → Control → Control → Type 0
-TurnsShown shows shown rule c view view_after channel channel_after control control_after =
+MakesTurnShown shows shown rule c view view_after channel channel_after control control_after =
     (after : Shown) → MayShow shows shown view_after after
     → (before : Shown) × MayShow shows shown view before
     × Turned c (rule before.version before.song c (turn_of c before channel control)) before after
@@ -65,7 +65,7 @@ MakesShown shows shown rule view view_after state state_after =
     → (before : Shown) × MayShow shows shown view before
     × Made rule before after (state before) (state_after after)
 
--- ---- what is kept, whatever stands behind the view
+-- ---- what is kept, whatever is behind the view
 
 -- a voice's channel keeps the sample of its head
 abbrev pub IsKept : (ℕ → SampleHead → Type 0) → ℕ → Option Voice → Type 0

@@ -34,7 +34,7 @@ gain_of volume global envelope fade = volume * global * envelope * fade / 2 ^ 17
 abbrev pub room_of : ℕ → ℕ
 room_of panning = if nat_le panning 128 then panning else 256 - panning
 
--- so many parts of 32 of a room
+-- that many parts of 32 of a room
 unfoldable pub moved : ℤ → ℕ → ℤ
 moved parts room = floor_div (parts *ℤ pos room) 32
 
@@ -82,7 +82,7 @@ heard_period linear offset channel =
 abbrev pub auto_wave : ℕ → ℕ
 auto_wave kind = if kind == 0 then 0 else (if kind == 1 then 2 else (if kind == 2 then 3 else 1))
 
--- it comes to its depth by and by, within so many ticks
+-- it comes to its depth by and by, within that many ticks
 abbrev pub auto_depth : Vibrato → ℕ → ℕ
 auto_depth vibrato age =
     if vibrato.sweep == 0 || nat_le vibrato.sweep age then vibrato.depth

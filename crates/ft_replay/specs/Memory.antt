@@ -11,51 +11,51 @@ with_memory place parameter channel =
 abbrev pub remembered : ℕ → Channel → ℕ
 remembered place channel = slice_index channel.memory place
 
--- ---- the place of each effect that has a memory
+-- ---- the index of each effect that has a memory
 
-abbrev pub portamento_up : ℕ
-portamento_up = 0
+abbrev pub portamento_up_index : ℕ
+portamento_up_index = 0
 
-abbrev pub portamento_down : ℕ
-portamento_down = 1
+abbrev pub portamento_down_index : ℕ
+portamento_down_index = 1
 
-abbrev pub sample_offset : ℕ
-sample_offset = 2
+abbrev pub sample_offset_index : ℕ
+sample_offset_index = 2
 
 -- of A, and of 5 and 6
-abbrev pub volume_slide : ℕ
-volume_slide = 3
+abbrev pub volume_slide_index : ℕ
+volume_slide_index = 3
 
-abbrev pub fine_portamento_up : ℕ
-fine_portamento_up = 4
+abbrev pub fine_portamento_up_index : ℕ
+fine_portamento_up_index = 4
 
-abbrev pub fine_portamento_down : ℕ
-fine_portamento_down = 5
+abbrev pub fine_portamento_down_index : ℕ
+fine_portamento_down_index = 5
 
-abbrev pub fine_volume_up : ℕ
-fine_volume_up = 6
+abbrev pub fine_volume_up_index : ℕ
+fine_volume_up_index = 6
 
-abbrev pub fine_volume_down : ℕ
-fine_volume_down = 7
+abbrev pub fine_volume_down_index : ℕ
+fine_volume_down_index = 7
 
-abbrev pub global_slide : ℕ
-global_slide = 8
+abbrev pub global_slide_index : ℕ
+global_slide_index = 8
 
-abbrev pub panning_slide : ℕ
-panning_slide = 9
+abbrev pub panning_slide_index : ℕ
+panning_slide_index = 9
 
 -- R has one for each digit
-abbrev pub retrigger_change : ℕ
-retrigger_change = 10
+abbrev pub retrigger_change_index : ℕ
+retrigger_change_index = 10
 
-abbrev pub retrigger_interval : ℕ
-retrigger_interval = 11
+abbrev pub retrigger_interval_index : ℕ
+retrigger_interval_index = 11
 
-abbrev pub tremor : ℕ
-tremor = 12
+abbrev pub tremor_index : ℕ
+tremor_index = 12
 
-abbrev pub extra_fine_up : ℕ
-extra_fine_up = 13
+abbrev pub extra_fine_up_index : ℕ
+extra_fine_up_index = 13
 
-abbrev pub extra_fine_down : ℕ
-extra_fine_down = 14
+abbrev pub extra_fine_down_index : ℕ
+extra_fine_down_index = 14

@@ -96,7 +96,7 @@ pub record IsInRange (time : Control) (all : List Channel) : Type 0 where
 
 -- ---- between ticks
 
--- the voices stand in ascending channels, in their list; none stands in its channel
+-- the voices are in ascending channels, in their list; none is in its channel
 pub record IsBetweenTicks (used : ℕ) (time : Control) (all : List Channel) (sounding : List Voice) :
     Type 0 where
   pub few : used ≤ 32

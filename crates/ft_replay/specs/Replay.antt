@@ -18,7 +18,7 @@ state_after song_at [] rate state = state
 state_after song_at (version ∷ versions) rate state =
     state_after song_at versions rate (seq_tick version (song_at version) rate state).state
 
--- of so many frames the last place has what the places before it leave, at most
+-- of that many frames the last place has what the places before it leave, at most
 abbrev pub cut_last : ℕ → List Place → List Place
 cut_last count [] = []
 cut_last count (place ∷ []) = record place { frames = min place.frames count } ∷ []
@@ -32,7 +32,7 @@ pub record Played : Type 0 where
   pub places : List Place
   pub sound : List ℤ
 
--- so many frames of a song of so many channels, on these versions and at this rate
+-- that many frames of a song of that many channels, on these versions and at this rate
 unfoldable pub replay : ℕ → (ℕ → Module) → List ℕ → ℕ → ℕ → Played
 replay channels song_at versions count rate =
     let ticks = ticks_from song_at versions rate (first_state channels) in
@@ -41,7 +41,7 @@ replay channels song_at versions count rate =
       sound = take (2 * count) (sound_of_ticks ticks);
     }
 
--- the sound of so many frames of one version of a song, from a state on: as many ticks as frames
+-- the sound of that many frames of one version of a song, from a state on: as many ticks as frames
 -- are enough, since each has a frame
 unfoldable pub sound_from : ℕ → Module → ℕ → ℕ → SequentialState → List ℤ
 sound_from version song count rate state =

@@ -34,11 +34,11 @@ retriggered_volume change volume =
 abbrev pub counted : Channel → ℕ
 counted channel = min 255 (channel.retrigger + 1)
 
--- each time so many ticks are counted the voice begins anew, with another volume
+-- each time that many ticks are counted the voice begins anew, with another volume
 abbrev pub multi_retrigger : Channel → Channel
 multi_retrigger channel =
-    let change = memory.remembered memory.retrigger_change channel in
-    let interval = memory.remembered memory.retrigger_interval channel in
+    let change = memory.remembered memory.retrigger_change_index channel in
+    let interval = memory.remembered memory.retrigger_interval_index channel in
     if not (interval == 0) && nat_le interval (counted channel)
     then record (restarted channel) { retrigger = 0; vol = retriggered_volume change channel.vol }
     else record channel { retrigger = counted channel }
@@ -50,11 +50,11 @@ abbrev pub muted_by : ℕ → Channel → Channel
 muted_by times channel = record channel { muted = nat_lt (high times) channel.tremor }
 
 abbrev pub tremor_start : Channel → Channel
-tremor_start channel = muted_by (memory.remembered memory.tremor channel) channel
+tremor_start channel = muted_by (memory.remembered memory.tremor_index channel) channel
 
 abbrev pub tremor_later : Channel → Channel
 tremor_later channel =
-    let times = memory.remembered memory.tremor channel in
+    let times = memory.remembered memory.tremor_index channel in
     muted_by times (record channel { tremor = (channel.tremor + 1) % (high times + low times + 2) })
 
 abbrev pub note_cut : ℕ → ℕ → Channel → Channel

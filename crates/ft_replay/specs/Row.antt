@@ -34,8 +34,8 @@ is_instrument cell = not (cell.instrument == 0) && not (cell.note == 97)
 
 -- ---- the instrument byte
 
-abbrev pub with_instrument : Cell → Channel → Channel
-with_instrument cell channel =
+abbrev pub with_cell_instrument : Cell → Channel → Channel
+with_cell_instrument cell channel =
     if cell.instrument == 0 then channel else record channel { instrument = cell.instrument }
 
 -- ---- the note
@@ -68,7 +68,8 @@ with_voice voice period channel =
 
 -- the frame at which a note of this row begins: effect 9 says it, by what the channel remembers
 abbrev pub start_frame_by : Effect → Channel → ℕ
-start_frame_by (SampleOffset pages) channel = 256 * memory.remembered memory.sample_offset channel
+start_frame_by (SampleOffset pages) channel =
+    256 * memory.remembered memory.sample_offset_index channel
 start_frame_by effect channel = 0
 
 abbrev pub start_frame : Cell → Channel → ℕ
@@ -188,13 +189,14 @@ after_note began cell channel =
 
 -- effect 9 is remembered before the note begins
 abbrev pub with_offset : Effect → Channel → Channel
-with_offset (SampleOffset pages) channel = memory.with_memory memory.sample_offset pages channel
+with_offset (SampleOffset pages) channel =
+    memory.with_memory memory.sample_offset_index pages channel
 with_offset effect channel = channel
 
 -- the instrument byte, the note, what they set anew, and the volume byte
 unfoldable pub strike_of : ℕ → Module → ℕ → Cell → Lane → Lane
 strike_of version song c cell lane =
-    let start = note_of version song c cell (with_channel (with_instrument cell) lane) in
+    let start = note_of version song c cell (with_channel (with_cell_instrument cell) lane) in
     with_channel
     (λ channel.
     volume_start_of (volume_effect_of cell.volume) (after_note start.began cell channel))

@@ -18,44 +18,45 @@ use Rattle.ft_replay.specs.VolumeColumn.{with_volume, with_panning}
 -- effects that slide by what they remember, once
 abbrev pub fine_portamento_up : ℕ → Channel → Channel
 fine_portamento_up speed channel =
-    let it = with_memory memory.fine_portamento_up speed channel in
-    slides.with_lower_period (4 * remembered memory.fine_portamento_up it) it
+    let it = with_memory memory.fine_portamento_up_index speed channel in
+    slides.with_lower_period (4 * remembered memory.fine_portamento_up_index it) it
 
 abbrev pub fine_portamento_down : ℕ → Channel → Channel
 fine_portamento_down speed channel =
-    let it = with_memory memory.fine_portamento_down speed channel in
-    slides.with_higher_period (4 * remembered memory.fine_portamento_down it) it
+    let it = with_memory memory.fine_portamento_down_index speed channel in
+    slides.with_higher_period (4 * remembered memory.fine_portamento_down_index it) it
 
 abbrev pub extra_fine_up : ℕ → Channel → Channel
 extra_fine_up speed channel =
-    let it = with_memory memory.extra_fine_up speed channel in
-    slides.with_lower_period (remembered memory.extra_fine_up it) it
+    let it = with_memory memory.extra_fine_up_index speed channel in
+    slides.with_lower_period (remembered memory.extra_fine_up_index it) it
 
 abbrev pub extra_fine_down : ℕ → Channel → Channel
 extra_fine_down speed channel =
-    let it = with_memory memory.extra_fine_down speed channel in
-    slides.with_higher_period (remembered memory.extra_fine_down it) it
+    let it = with_memory memory.extra_fine_down_index speed channel in
+    slides.with_higher_period (remembered memory.extra_fine_down_index it) it
 
 abbrev pub fine_volume_up : ℕ → Channel → Channel
 fine_volume_up change channel =
-    let it = with_memory memory.fine_volume_up change channel in
-    slides.with_volume_up (remembered memory.fine_volume_up it) it
+    let it = with_memory memory.fine_volume_up_index change channel in
+    slides.with_volume_up (remembered memory.fine_volume_up_index it) it
 
 abbrev pub fine_volume_down : ℕ → Channel → Channel
 fine_volume_down change channel =
-    let it = with_memory memory.fine_volume_down change channel in
-    slides.with_volume_down (remembered memory.fine_volume_down it) it
+    let it = with_memory memory.fine_volume_down_index change channel in
+    slides.with_volume_down (remembered memory.fine_volume_down_index it) it
 
 -- effects of later ticks set their memories and speeds now
 unfoldable pub slide_start : Effect → Channel → Channel
-slide_start (PortamentoUp speed) channel = with_memory memory.portamento_up speed channel
-slide_start (PortamentoDown speed) channel = with_memory memory.portamento_down speed channel
+slide_start (PortamentoUp speed) channel = with_memory memory.portamento_up_index speed channel
+slide_start (PortamentoDown speed) channel = with_memory memory.portamento_down_index speed channel
 slide_start (TonePortamento speed) channel = slides.with_tone_speed speed channel
-slide_start (TonePortamentoSlide change) channel = with_memory memory.volume_slide change channel
-slide_start (VibratoSlide change) channel = with_memory memory.volume_slide change channel
-slide_start (VolumeSlide change) channel = with_memory memory.volume_slide change channel
-slide_start (GlobalSlide change) channel = with_memory memory.global_slide change channel
-slide_start (PanningSlide change) channel = with_memory memory.panning_slide change channel
+slide_start (TonePortamentoSlide change) channel =
+    with_memory memory.volume_slide_index change channel
+slide_start (VibratoSlide change) channel = with_memory memory.volume_slide_index change channel
+slide_start (VolumeSlide change) channel = with_memory memory.volume_slide_index change channel
+slide_start (GlobalSlide change) channel = with_memory memory.global_slide_index change channel
+slide_start (PanningSlide change) channel = with_memory memory.panning_slide_index change channel
 slide_start (FinePortamentoUp speed) channel = fine_portamento_up speed channel
 slide_start (FinePortamentoDown speed) channel = fine_portamento_down speed channel
 slide_start (ExtraFineUp speed) channel = extra_fine_up speed channel
@@ -78,8 +79,8 @@ with_envelope_positions position channel = record channel { vol_env = position; 
 
 abbrev pub with_retrigger : ℕ → ℕ → Channel → Channel
 with_retrigger change interval channel =
-    with_memory memory.retrigger_interval interval
-    (with_memory memory.retrigger_change change channel)
+    with_memory memory.retrigger_interval_index interval
+    (with_memory memory.retrigger_change_index change channel)
 
 abbrev pub with_vibrato : ℕ → ℕ → Channel → Channel
 with_vibrato speed depth channel =
@@ -90,7 +91,7 @@ with_tremolo speed depth channel =
     swings.with_tremolo_depth depth (swings.with_tremolo_speed speed channel)
 
 abbrev pub with_tremor : ℕ → Channel → Channel
-with_tremor times channel = retriggers.tremor_start (with_memory memory.tremor times channel)
+with_tremor times channel = retriggers.tremor_start (with_memory memory.tremor_index times channel)
 
 -- effects that set something, now
 unfoldable pub setting_start : Effect → Channel → Channel
@@ -112,11 +113,11 @@ setting_start effect channel = channel
 -- effects that slide by what they remember, at each tick
 abbrev pub portamento_up : Channel → Channel
 portamento_up channel =
-    slides.with_lower_period (4 * remembered memory.portamento_up channel) channel
+    slides.with_lower_period (4 * remembered memory.portamento_up_index channel) channel
 
 abbrev pub portamento_down : Channel → Channel
 portamento_down channel =
-    slides.with_higher_period (4 * remembered memory.portamento_down channel) channel
+    slides.with_higher_period (4 * remembered memory.portamento_down_index channel) channel
 
 abbrev pub tone_portamento_slide : Channel → Channel
 tone_portamento_slide channel = slides.volume_slide (slides.tone_portamento channel)
@@ -158,7 +159,7 @@ control_start effect control = control
 -- the global volume slides by what the channel remembers
 unfoldable pub control_tick : Effect → Channel → Control → Control
 control_tick (GlobalSlide change) channel control =
-    sequence.global_slide (remembered memory.global_slide channel) control
+    sequence.global_slide (remembered memory.global_slide_index channel) control
 control_tick effect channel control = control
 
 -- ---- on both

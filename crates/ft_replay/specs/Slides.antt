@@ -58,8 +58,12 @@ with_panning_left change channel = record channel { pan = channel.pan - change }
 
 abbrev pub volume_slide : Channel → Channel
 volume_slide channel =
-    record channel { vol = slid 64 (memory.remembered memory.volume_slide channel) channel.vol }
+    record channel {
+      vol = slid 64 (memory.remembered memory.volume_slide_index channel) channel.vol;
+    }
 
 abbrev pub panning_slide : Channel → Channel
 panning_slide channel =
-    record channel { pan = slid 255 (memory.remembered memory.panning_slide channel) channel.pan }
+    record channel {
+      pan = slid 255 (memory.remembered memory.panning_slide_index channel) channel.pan;
+    }

@@ -15,8 +15,8 @@ use Rattle.ft_replay.specs.Row.{without_voice}
 abbrev pub loop_turn : SampleHead → ℕ
 loop_turn head = if head.loop_kind == 2 then max 1 (2 * head.loop_len - 2) else head.loop_len
 
--- the frame of a loop, from its first, so many steps into a turn: a ping-pong loop is reflected at
--- its last frame
+-- the frame of a loop, from its first, that many steps into a turn: a ping-pong loop is reflected
+-- at its last frame
 abbrev pub reflected : SampleHead → ℕ → ℕ
 reflected head steps = if nat_lt steps head.loop_len then steps else loop_turn head - steps
 
@@ -113,7 +113,7 @@ sound_of_voices kept voices (suc frames) =
 
 -- ---- what a tick leaves of a voice
 
--- where a voice has come to after so many frames
+-- where a voice has come to after that many frames
 abbrev pub reached : ℕ → Voice → ℕ
 reached frames voice = voice.pos + frames * voice.step
 

@@ -8,7 +8,7 @@ abbrev pub signed_as : ℤ → ℕ → ℤ
 signed_as (pos n) size = pos size
 signed_as (negsuc n) size = pos 0 -ℤ pos size
 
--- so many parts of a wave, rounded towards 0
+-- that many parts of a wave, rounded towards 0
 unfoldable pub parts_of : ℤ → ℕ → ℕ → ℤ
 parts_of height depth parts = signed_as height (nat_abs height * depth / parts)
 

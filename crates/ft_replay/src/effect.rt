@@ -55,7 +55,7 @@ pub enum Effect {
     PatternLoop { times: u8 },
     /// E7x: the kind of the tremolo's wave, 0 to 7.
     TremoloWave { kind: u8 },
-    /// E9x: the voice begins anew each time so many ticks have passed.
+    /// E9x: the voice begins anew each time that many ticks have passed.
     Retrigger { interval: u8 },
     /// EAx: the volume rises once (memory).
     FineVolumeUp { change: u8 },

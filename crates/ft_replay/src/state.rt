@@ -129,7 +129,7 @@ pub struct SongState {
     pub used: u8,
     /// What the channels remember; those past the song's are as they were at first.
     pub channels: [Channel; 32],
-    /// The sounding voices, in ascending order of their channels. While a tick is
-    /// made each stands in its channel.
+    /// The sounding voices, in ascending order of their channels. While a tick is made each is in
+    /// its channel.
     pub voices: ArrayVec<Voice, 32>,
 }

@@ -2,16 +2,16 @@
 use Rattle.std.proofs.Common.{◌≡◌, ◌≤◌, ◌+◌, ◌-◌, ℕ, Bool, true, false, List, length, get_or, set, below_more, replicate, ap, sym, subst, ◌∙◌, arith}
 use Rattle.std.proofs.lemmas.List.{length-set, length-replicate}
 use Rattle.ft_retire.specs.declared.life.Life.{Life}
-use Rattle.ft_retire.specs.Births.{IsCounted}
+use Rattle.ft_retire.specs.Births.{HasCounts}
 use Rattle.ft_retire.specs.Marks.{unmarked_in, IsLeastUnmarked}
 use Rattle.ft_retire.proofs.Marking.{no_marks, none_unmarked, stays_marked}
 
 -- no mark is left
 pub counted_anew : (lives : List Life) (marks : List Bool) (n free : ℕ)
     → length lives ≡ n → n ≤ 65535 → free ≡ n → marks ≡ replicate n false
-    → IsCounted lives marks free 0
+    → HasCounts lives marks free 0
 counted_anew lives marks n free many few e none = subst
-    (λ (ms : List Bool). IsCounted lives ms free 0) (sym none)
+    (λ (ms : List Bool). HasCounts lives ms free 0) (sym none)
     (record {
       many = many ∙ sym (length-replicate n false);
       few = omega (arith, length-replicate n false);
@@ -22,7 +22,7 @@ counted_anew lives marks n free many few e none = subst
 
 -- all are marked
 pub counted_full : (lives : List Life) (marks : List Bool) (free next end : ℕ)
-    → IsCounted lives marks free next → unmarked_in marks ≡ 0 → end ≤ length marks → IsCounted lives marks free end
+    → HasCounts lives marks free next → unmarked_in marks ≡ 0 → end ≤ length marks → HasCounts lives marks free end
 counted_full lives marks free next end old none le = record {
   many = old.many;
   few = old.few;
@@ -33,11 +33,11 @@ counted_full lives marks free next end old none le = record {
 
 -- a segment is given
 pub counted_given : (lives : List Life) (marks new : List Bool) (free next segment count : ℕ) (life : Life)
-    → IsCounted lives marks free next → IsLeastUnmarked marks segment
+    → HasCounts lives marks free next → IsLeastUnmarked marks segment
     → new ≡ set marks segment true
     → unmarked_in new + count ≡ unmarked_in marks
     → get_or new segment true ≡ true
-    → IsCounted (set lives segment life) new (free - count) (segment + 1)
+    → HasCounts (set lives segment life) new (free - count) (segment + 1)
 counted_given lives marks new free next segment count life old least e less here = record {
   many = length-set lives segment life ∙ old.many ∙ sym (length-set marks segment true) ∙ sym (ap length e);
   few = omega (arith, old.few, ap length e, length-set marks segment true);

@@ -26,7 +26,7 @@ retired version segment lives =
     set lives segment (record { born = (get_or lives segment never).born; died = Some version })
 
 -- what holds of the two numbers that are kept beside the lists
-pub record IsCounted (lives : List Life) (marks : List Bool) (free looked : ℕ) : Type 0 where
+pub record HasCounts (lives : List Life) (marks : List Bool) (free looked : ℕ) : Type 0 where
   pub many : length lives ≡ length marks
   pub few : length marks ≤ 65535
   pub counted : free ≡ unmarked_in marks

@@ -25,7 +25,7 @@ pub struct Births {
 }
 
 impl Model for Births {
-    ghost use Rattle.ft_retire.specs.Births.{BirthsState, IsCounted};
+    ghost use Rattle.ft_retire.specs.Births.{BirthsState, HasCounts};
 
     ghost Value = { BirthsState };
 
@@ -36,7 +36,7 @@ impl Model for Births {
     } };
 
     ghost invariant = { λ births.
-        IsCounted births.lives.items births.marks.items births.free births.looked };
+        HasCounts births.lives.items births.marks.items births.free births.looked };
 }
 
 impl Births {

@@ -11,7 +11,7 @@ use Rattle.ft_replay.specs.Tick.{seq_tick}
 use Rattle.ft_run.specs.Measure.{louder, peak_of, ticks_within}
 use Rattle.ft_run.proofs.Underway.{Played, sound_after, plays_none, plays_on, heard_on, heard_all}
 
--- so many ticks were played, and this is how loud they were; as many are to come as are missing
+-- that many ticks were played, and this is how loud they were; as many are to come as are missing
 pub record Measured (version : ℕ) (song : Module) (rate frames : ℕ) (first : SequentialState) (ticks peak : ℕ)
     (state : SequentialState) (left : ℕ) : Type 0 where
   pub so_far : Played version song rate frames first ticks state left

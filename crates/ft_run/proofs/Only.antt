@@ -1,4 +1,4 @@
--- What stands behind a player, where that is one version alone.
+-- What is behind a player, where that is one version alone.
 use Rattle.std.proofs.Common.{◌≡◌, ℕ, ◌*◌, ◌≤◌, ℤ, List, Option, Some, None, IsSome, length, take, refl, sym, ap, ◌∙◌, arith}
 use Rattle.std.specs.Prelude.{IsSomeAnd}
 use Rattle.ft_types.specs.declared.tick_report.TickReport.{TickReport}
@@ -11,7 +11,7 @@ use Rattle.ft_shared.specs.History.{placed_at}
 use Rattle.ft_shared.specs.Pass.{ReaderState}
 use Rattle.ft_player.specs.declared.songs.Songs.{Songs}
 use Rattle.ft_player.specs.Songs.{history_of, song_at}
-use Rattle.ft_player.specs.Behind.{Stands}
+use Rattle.ft_player.specs.Behind.{AreSongsBehind}
 use Rattle.ft_player.specs.Player.{PlayerState, IsPlayed, HasLooked, stood_by}
 use Rattle.ft_run.specs.Stage.{IsOnly}
 use Rattle.ft_run.proofs.Underway.{sound_long}
@@ -21,7 +21,7 @@ there P None some = absurd some
 there P (Some placed) some = refl
 
 -- what a pass holds is the only version
-held_only : (songs : Songs) (pass : ReaderState) (held : TakenVersion) (version : ℕ) → Stands songs pass → IsOnly songs version
+held_only : (songs : Songs) (pass : ReaderState) (held : TakenVersion) (version : ℕ) → AreSongsBehind songs pass → IsOnly songs version
     → pass.notes.held ≡ Some held → held.version ≡ version
 held_only songs pass held version stands only holds =
     only held.version (there (λ placed. placed.root ≡ held.root) (placed_at (history_of songs) held.version)
@@ -35,7 +35,7 @@ pub record IsOfOnly (songs : Songs) (version rate : ℕ) (old new : PlayerState)
   pub long : length (seq_tick version (song_at songs version) rate (stood_by songs old)).sound ≡ 2 * report.frames
 
 pub only_tick : (songs : Songs) (version rate : ℕ) (old new : PlayerState) (report : TickReport) (out : List ℤ)
-    → IsPlayed songs old new report out → Stands songs new.pass → IsOnly songs version
+    → IsPlayed songs old new report out → AreSongsBehind songs new.pass → IsOnly songs version
     → HasLooked old.pass.notes new.pass.notes report.version → old.rate ≡ rate
     → report.frames ≤ 3750 → 7502 ≤ length out → IsOfOnly songs version rate old new report out
 only_tick songs version rate old new report out played stands only looked same few room =

@@ -1,4 +1,4 @@
--- What `step` tells of its pool, wherever it ends.
+-- What `step` says of its pool, wherever it ends.
 use Rattle.std.proofs.Common.{◌≡◌, ◌≢◌, ◌<◌, ◌≤◌, ℕ, List, Option, sym, ap, ◌∙◌, refl, subst, arith, inl, inr, Ok, Err}
 use Rattle.std.specs.Prelude.{IfSome}
 use Rattle.std.specs.Result.{IsErrOf}
@@ -15,7 +15,7 @@ use Rattle.ft_run.specs.Statuses.{IsAccepted, IsDone, IsUnread, RefusesPool}
 use Rattle.ft_run.specs.declared.status.Status.{Status}
 use Rattle.ft_run.specs.declared.status.Status.TheVariants as statuses
 
--- a song that is spelled and not read: its source failed, or memory was wanting
+-- a song that is spelled and not read: its source failed, or memory ran out
 unread_refuses : (status : Status) (blocks segments : ℕ) → IsUnread status → IsAccepted status → RefusesPool status blocks segments
 unread_refuses statuses.SongRead blocks segments unread accepted = tt
 unread_refuses statuses.NoMemory blocks segments unread accepted = tt
@@ -80,7 +80,7 @@ module _ (held : Option (List ℕ)) (segments : ℕ) where
       fits = λ song holds few need had e. let same = same_blocks song holds in omega (arith, is, more, same, few);
     }
 
-    -- and both numbers are told
+    -- and both numbers are named
     pub small_told : (need had a b : ℕ) → IsValid read → IfSome held (λ file. Spells file read) → segments < blocks_of read
         → need ≡ blocks_of read → had ≡ segments → a ≡ need → b ≡ had → TellsPool held segments (statuses.PoolSmall a b)
     small_told need had a b valid told more is same x y =

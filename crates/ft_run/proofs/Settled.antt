@@ -1,4 +1,4 @@
--- What a stage was set for stands behind its player, once the pass is settled.
+-- What a stage was set for is behind its player, once the pass is settled.
 use Rattle.std.proofs.Common.{◌≡◌, ℕ, List, [], ◌∷◌, Option, Some, None, sym, ap, subst, ◌∙◌, inl, inr, Bool, cond}
 use Rattle.std.proofs.lemmas.Bool.{cases_eq, ne_eqb}
 use Rattle.std.proofs.lemmas.List.Elements.{All-nil, All-cons}
@@ -17,7 +17,7 @@ use Rattle.ft_desk.specs.Desk.{DeskState, IsDesk}
 use Rattle.ft_player.specs.declared.songs.Songs.{Songs}
 use Rattle.ft_player.specs.declared.songs.SongVersion.{SongVersion}
 use Rattle.ft_player.specs.Songs.{song_at}
-use Rattle.ft_player.specs.Behind.{IsShown, Stands}
+use Rattle.ft_player.specs.Behind.{IsShown, AreSongsBehind}
 use Rattle.ft_player.specs.Player.{PlayerState, ForAllBehind, HasClosed, stood_by}
 use Rattle.ft_run.specs.declared.stage.Stage.{Stage}
 use Rattle.ft_run.specs.Stage.{IsSet, IsOnly}
@@ -51,7 +51,7 @@ pub stands : (song : Module) (stage : Stage) (set : IsSet song stage) (after : D
     → IsDesk stage.desk → old.register ≡ stage.shared → HasClosed old closed
     → after.writer.account.history ≡ stage.desk.writer.account.history
     → Agrees after.writer.account.history closed.notes
-    → Stands (songs_of (pool_of stage.shared.sizes.segments set.opened.words) song) old
+    → AreSongsBehind (songs_of (pool_of stage.shared.sizes.segments set.opened.words) song) old
 stands song stage set after old closed desk here unpinned kept agrees =
     let pool = pool_of stage.shared.sizes.segments set.opened.words in
     let history : stage.desk.writer.account.history ≡ first_of pool ∷ [] = ap (λ (w : WriterState). w.account.history) set.opened.writer in
@@ -71,7 +71,7 @@ stands song stage set after old closed desk here unpinned kept agrees =
       }) (All-nil (IsShown old.register.sizes));
     }
 
--- what is true of the only version, whatever stands behind the player, is true of the stage's song
+-- what is true of the only version, whatever is behind the player, is true of the stage's song
 pub of_stage : (P : ℕ → Module → ℕ → SequentialState → Type 0) (song : Module) (stage : Stage) (set : IsSet song stage)
     (old new : PlayerState) (closed : ReaderState) (after : DeskState) (rate : ℕ)
     → IsDesk stage.desk → new.pass.register ≡ stage.shared → HasClosed new.pass closed

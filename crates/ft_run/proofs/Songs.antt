@@ -1,4 +1,4 @@
--- What a run tells of its song, wherever it ends.
+-- What a run says of its song, wherever it ends.
 use Rattle.std.proofs.Common.{◌≡◌, ◌≢◌, ℕ, ◌+◌, ◌<◌, ◌≤◌, List, [], length, Option, Some, inl, inr, ◌⊎◌, refl, sym, subst, arith}
 use Rattle.std.specs.Prelude.{IfSome, Result, Err}
 use Rattle.ft_types.specs.declared.module.Module.{Module}
@@ -18,7 +18,7 @@ use Rattle.ft_run.specs.Statuses.{IsAccepted, IsAfterReading, IsOfCopy, IsUnread
 
 -- ---- sources
 
--- a source that is told gave all that it held
+-- a source that is known gave all that it held
 pub told_file : (old new : Option (List ℕ)) (file bytes : List ℕ) → old ≡ Some file → GivesAll old new bytes
     → bytes ≡ file
 told_file old new file bytes e all =
@@ -51,7 +51,7 @@ is_fault file found fault e (inl wanting) =
     subst (λ (f : XmFault). refusal_of f ≡ statuses.Song (Xm fault)) wanting e in
     absurd cc
 
--- no song is read where memory is wanting
+-- no song is read where memory runs out
 pub accepts : (found : XmFault) → found ≡ faults.NoMemory → IsAccepted (refusal_of found)
 accepts found wanting = subst (λ (f : XmFault). IsAccepted (refusal_of f)) (sym wanting) tt
 
@@ -59,7 +59,7 @@ refuses_own : (fault : XmFault) → RefusesSong (refusal_of fault) (Xm fault)
 refuses_own faults.NoMemory = tt
 refuses_own fault = refl
 
--- a fault of the bytes is the status's, unless memory was wanting
+-- a fault of the bytes is the status's, unless memory ran out
 refuses : (found fault : XmFault) → (found ≡ fault) ⊎ (found ≡ faults.NoMemory)
     → RefusesSong (refusal_of found) (Xm fault)
 refuses found fault (inl e) = subst (λ (f : XmFault). RefusesSong (refusal_of found) (Xm f)) e (refuses_own found)
@@ -112,7 +112,7 @@ module _ {Source : Type 0} (left : Source → Option (List ℕ)) (given failed :
     whole = λ after. absurd after;
   }
 
-  -- memory was wanting
+  -- memory ran out
   pub memory_wanted : failed new ≡ failed old → given new ≤ given old + MOST_BYTES → Reads statuses.NoMemory
   memory_wanted kept few = record {
     count = record { told = λ e. absurd cc; kept = λ _. kept };

@@ -13,7 +13,7 @@ use Rattle.ft_replay.specs.State.{SequentialState}
 use Rattle.ft_replay.specs.Replay.{ticks_from, state_after, sound_of_ticks, sound_from}
 use Rattle.ft_replay.specs.Tick.{Tick, seq_tick}
 
--- the sound of so many ticks of a version of a song, and the state after them
+-- the sound of that many ticks of a version of a song, and the state after them
 abbrev pub sound_after : ℕ → Module → ℕ → SequentialState → ℕ → List ℤ
 sound_after version song rate state ticks =
     sound_of_ticks (ticks_from (λ version. song) (replicate ticks version) rate state)
@@ -21,7 +21,7 @@ sound_after version song rate state ticks =
 abbrev pub after_ticks : ℕ → Module → ℕ → SequentialState → ℕ → SequentialState
 after_ticks version song rate state ticks = state_after (λ version. song) (replicate ticks version) rate state
 
--- so many ticks were played; all of them are whole, but maybe the last
+-- that many ticks were played; all of them are whole, but maybe the last
 pub record Played (version : ℕ) (song : Module) (rate frames : ℕ) (first : SequentialState) (ticks : ℕ)
     (state : SequentialState) (left : ℕ) : Type 0 where
   pub played : ℕ

@@ -1,4 +1,4 @@
--- What is told of a song that was played: how many ticks it took, and how loud it was.
+-- What is said of a song that was played: how many ticks it took, and how loud it was.
 use Rattle.std.specs.Prelude.{ℕ, zero, suc, ◌-◌, ◌==◌, max, if◌then◌else◌, ℤ, nat_abs, List, fold}
 use Rattle.ft_types.specs.declared.module.Module.{Module}
 use Rattle.ft_replay.specs.State.{SequentialState, first_state}
@@ -13,7 +13,7 @@ louder peak number = max peak (nat_abs number)
 abbrev pub peak_of : List ℤ → ℕ
 peak_of numbers = fold louder 0 numbers
 
--- how many of at most so many ticks of a song it takes, from a state on, to have so many frames
+-- how many ticks of a song it takes, from a state on, to have that many frames, of at most n
 abbrev pub ticks_within : ℕ → ℕ → Module → ℕ → ℕ → SequentialState → ℕ
 ticks_within zero version song rate frames state = 0
 ticks_within (suc most) version song rate frames state =
@@ -26,6 +26,6 @@ unfoldable pub ticks_of_song : Module → ℕ → ℕ → ℕ
 ticks_of_song song frames rate =
     ticks_within frames 0 song rate frames (first_state song.channels)
 
--- how loud so many frames of a song are
+-- how loud that many frames of a song are
 unfoldable pub peak_of_song : Module → ℕ → ℕ → ℕ
 peak_of_song song frames rate = peak_of (sound_of_song song frames rate)

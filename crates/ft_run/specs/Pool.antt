@@ -1,4 +1,4 @@
--- What `step` tells of its pool, and when a run comes to its end.
+-- What `step` says of its pool, and when a run comes to its end.
 use Rattle.std.specs.Prelude.{◌≡◌, ◌≢◌, ◌<◌, ◌≤◌, ℕ, List, Option, IfSome}
 use Rattle.ft_types.specs.declared.module.Module.{Module}
 use Rattle.ft_types.specs.Blocks.{blocks_of}
@@ -17,7 +17,7 @@ abbrev pub HoldsSong : Option (List ℕ) → Module → Type 0
 HoldsSong held song = (file : List ℕ) × IsSongFile held file × Spells file song
 
 -- these are the segments that a song wants and those of a pool, which are fewer; where the source
--- is told, the song is that of its bytes
+-- is known, the song is that of its bytes
 pub record IsTooSmall (held : Option (List ℕ)) (segments need had : ℕ) : Type 0 where
   pub song : Module
   pub valid : IsValid song
@@ -26,11 +26,11 @@ pub record IsTooSmall (held : Option (List ℕ)) (segments need had : ℕ) : Typ
   pub has : had ≡ segments
   pub over : segments < blocks_of song
 
--- What `step` tells of a pool of so many segments, by what its source held.
+-- What `step` says of a pool of that many segments, by what its source held.
 pub record TellsPool (held : Option (List ℕ)) (segments : ℕ) (result : Status) : Type 0 where
-  -- the pool is too small only for a song that wants more, and both numbers are told
+  -- the pool is too small only for a song that wants more, and both numbers are named
   pub small : (need had : ℕ) → result ≡ PoolSmall need had → IsTooSmall held segments need had
-  -- where the source is told, it is too small exactly where its song wants more
+  -- where the source is known, it is too small exactly where its song wants more
   pub over : (song : Module) → HoldsSong held song → segments < blocks_of song
       → RefusesPool result (blocks_of song) segments
   pub fits : (song : Module) → HoldsSong held song → blocks_of song ≤ segments

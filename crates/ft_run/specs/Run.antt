@@ -15,23 +15,23 @@ use Rattle.ft_words.specs.declared.answer.Asked.{Asked}
 use Rattle.ft_words.specs.declared.answer.Asked.TheVariants as ask
 use Rattle.ft_words.specs.Answer.{IsAskedBy}
 
--- the frames of so many seconds
+-- the frames of that many seconds
 abbrev pub frames_asked : Step → ℕ
 frames_asked step = step.rate * step.seconds
 
--- the WAV file of a song: its replay from the beginning, for so many frames
+-- the WAV file of a song: its replay from the beginning, for that many frames
 unfoldable pub wav_of : Module → Step → List ℕ
 wav_of song step =
     wav_bytes step.rate (frames_asked step) (sound_of_song song (frames_asked step) step.rate)
 
--- the WAV file of the song that the source held, where that is told
+-- the WAV file of the song that the source held, where that is known
 pub record IsOutput (step : Step) (held : Option (List ℕ)) (bytes : List ℕ) : Type 0 where
   pub song : Module
   pub valid : IsValid song
   pub told : IfSome held (λ file. Spells file song)
   pub wav : bytes ≡ wav_of song step
 
--- the canonical bytes of the song that the source held, where that is told
+-- the canonical bytes of the song that the source held, where that is known
 pub record IsCopy (held : Option (List ℕ)) (bytes : List ℕ) : Type 0 where
   pub song : Module
   pub valid : IsValid song
@@ -39,8 +39,8 @@ pub record IsCopy (held : Option (List ℕ)) (bytes : List ℕ) : Type 0 where
   pub written : bytes ≡ canon song
 
 -- a line of five numbers
-abbrev pub line_of : ℕ → ℕ → ℕ → ℕ → ℕ → List ℕ
-line_of number bytes blocks ticks peak =
+abbrev pub generated_line : ℕ → ℕ → ℕ → ℕ → ℕ → List ℕ
+generated_line number bytes blocks ticks peak =
     codes "gen " ++ (decimal number ++ (codes " bytes " ++ (decimal bytes
     ++ (codes " blocks " ++ (decimal blocks ++ (codes " ticks " ++ (decimal ticks
     ++ (codes " peak " ++ (decimal peak ++ codes "\n")))))))))
@@ -53,7 +53,7 @@ measured_frames = 441000
 -- it is
 unfoldable pub line_of_song : ℕ → Module → List ℕ
 line_of_song number song =
-    line_of number (length (canon song)) (blocks_of song)
+    generated_line number (length (canon song)) (blocks_of song)
     (ticks_of_song song measured_frames 44100) (peak_of_song song measured_frames 44100)
 
 -- and of a generated one

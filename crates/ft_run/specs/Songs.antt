@@ -1,4 +1,4 @@
--- What a run tells of the song that it reads.
+-- What a run says of the song that it reads.
 use Rattle.std.specs.Prelude.{◌≡◌, ◌≢◌, ◌↔◌, ◌+◌, ◌<◌, ◌≤◌, ℕ, List, [], length, Option, Some, IfSome, Result, Ok, Err}
 use Rattle.ft_types.specs.declared.module.Module.{Module}
 use Rattle.ft_format.specs.Spelling.{Spells}
@@ -15,15 +15,15 @@ use Rattle.ft_run.specs.Statuses.{IsCounted, IsAccepted, IsAfterReading, Refuses
 abbrev pub IsSongFile : Option (List ℕ) → List ℕ → Type 0
 IsSongFile held file = (held ≡ Some file) × (length file ≤ MOST_BYTES)
 
--- What a run tells of the song of a source. Of the source it is known what it has left, where that
--- is told, how many bytes it gave, and how often it failed.
+-- What a run says of the song of a source. Of the source it is known what it has left, where it
+-- says so, how many bytes it gave, and how often it failed.
 pub record ReadsSong {Source : Type 0} (left : Source → Option (List ℕ))
     (given faults : Source → ℕ) (old new : Source) (result : Status) : Type 0 where
   -- it could not be read only where the source counted a fault, and else none was counted
   pub count : IsCounted SongRead result (faults old) (faults new)
   -- it is too big exactly where the source gave more bytes than a song has at most
   pub too_big : (result ≡ Song TooBig) ↔ (given old + MOST_BYTES < given new)
-  -- where the source is told, that is exactly where it held more
+  -- where the source is known, that is exactly where it held more
   pub held_more : (file : List ℕ) → left old ≡ Some file → result ≡ Song TooBig
       → MOST_BYTES < length file
   pub told_more : (file : List ℕ) → left old ≡ Some file → MOST_BYTES < length file
@@ -45,7 +45,7 @@ abbrev pub ending : Result Module Status → Status
 ending (Ok song) = Done
 ending (Err status) = status
 
--- what was read is this song, unless it could not be read, or memory was wanting
+-- what was read is this song, unless it could not be read, or memory ran out
 abbrev pub IsReadAs : Result Module Status → Module → Type 0
 IsReadAs (Ok read) song = read ≡ song
 IsReadAs (Err status) song = IsAccepted status

@@ -1,4 +1,4 @@
--- How runs end: the statuses that a command has, and those that tell a cause.
+-- How runs end: the statuses that a command has, and those that name a cause.
 use Rattle.std.specs.Prelude.{◌≡◌, ◌≢◌, ℕ}
 use Rattle.ft_outer.specs.Counts.{Rose}
 use Rattle.ft_xmread.specs.declared.fault.XmFault.{XmFault}
@@ -70,15 +70,15 @@ IsAfterReading LedgerWrite = Unit {0}
 IsAfterReading (PoolSmall need had) = Unit {0}
 IsAfterReading status = ⊥
 
--- it wrote all, unless memory was wanting
+-- it wrote all, unless memory ran out
 abbrev pub IsDone : Status → Type 0
 IsDone Done = Unit {0}
 IsDone NoMemory = Unit {0}
 IsDone status = ⊥
 
--- ---- what is told of a song
+-- ---- what is said of a song
 
--- the song is taken, unless it could not be read, or memory was wanting
+-- the song is taken, unless it could not be read, or memory ran out
 abbrev pub IsAccepted : Status → Type 0
 IsAccepted Done = Unit {0}
 IsAccepted WavWrite = Unit {0}
@@ -87,15 +87,15 @@ IsAccepted SongRead = Unit {0}
 IsAccepted NoMemory = Unit {0}
 IsAccepted status = ⊥
 
--- the song is refused for this, unless it could not be read, or memory was wanting
+-- the song is refused for this, unless it could not be read, or memory ran out
 abbrev pub RefusesSong : Status → SongFault → Type 0
 RefusesSong (Song found) fault = found ≡ fault
 RefusesSong SongRead fault = Unit {0}
 RefusesSong NoMemory fault = Unit {0}
 RefusesSong status fault = ⊥
 
--- the pool is too small for a song of so many blocks, unless it could not be read, or memory was
--- wanting
+-- the pool is too small for a song of that many blocks, unless it could not be read, or memory ran
+-- out
 abbrev pub RefusesPool : Status → ℕ → ℕ → Type 0
 RefusesPool (PoolSmall need had) blocks segments = (need ≡ blocks) × (had ≡ segments)
 RefusesPool SongRead blocks segments = Unit {0}
@@ -109,7 +109,7 @@ refusal_of fault = Song (Xm fault)
 
 -- ---- counts of the outside
 
--- the status that tells a fault of the outside comes only where its count rose, and any other
+-- the status that names a fault of the outside comes only where its count rose, and any other
 -- leaves the count
 pub record IsCounted (cause result : Status) (before now : ℕ) : Type 0 where
   pub told : result ≡ cause → Rose before now

@@ -8,7 +8,7 @@ ghost use Rattle.ft_format.specs.Canon.{canon};
 ghost use Rattle.ft_outer.specs.Pieces.{TakesFront};
 ghost use Rattle.ft_xmwrite.specs.Generate.{generated};
 ghost use Rattle.ft_run.specs.Pool.{NeverRose};
-ghost use Rattle.ft_run.specs.Run.{line_of, line_of_song, gen_line};
+ghost use Rattle.ft_run.specs.Run.{generated_line, line_of_song, gen_line};
 ghost use Rattle.ft_run.specs.Statuses.{IsCounted, IsDone, IsOfGen};
 
 use crate::measure::measured;
@@ -34,7 +34,7 @@ fn generated_bytes(alloc: Global, number: u32) -> Result<Vec<u8>, NoMemory>
     write_xm(alloc, &song)
 }
 
-/// What is told of a song: its bytes and its blocks, how many ticks it takes, and how loud it is.
+/// What is said of a song: its bytes and its blocks, how many ticks it takes, and how loud it is.
 #[derive(Clone, Copy)]
 struct Numbers {
     bytes: usize,
@@ -46,7 +46,7 @@ struct Numbers {
 /// The line of a song with these numbers.
 fn line_of(alloc: Global, number: u32, told: Numbers) -> Result<String, NoMemory>
     ensures { IfOk result (λ line. string_bytes line
-        ≡ line_of number told.bytes told.blocks told.ticks told.peak) }
+        ≡ generated_line number told.bytes told.blocks told.ticks told.peak) }
 {
     let Numbers {
         bytes,
@@ -57,7 +57,7 @@ fn line_of(alloc: Global, number: u32, told: Numbers) -> Result<String, NoMemory
     Ok(format!(in alloc; "gen {number} bytes {bytes} blocks {blocks} ticks {ticks} peak {peak}\n")?)
 }
 
-/// The line of a song, which is played for that, whose canonical bytes are so many.
+/// The line of a song, which is played for that, whose canonical bytes are that many.
 #[tactic(auto, unfolding(crate::specs::Run::line_of_song))]
 fn line_of_song(alloc: Global, number: u32, song: &Module, bytes: usize) -> Result<String, NoMemory>
     requires valid { IsValid song.now }

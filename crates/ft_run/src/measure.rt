@@ -22,7 +22,7 @@ use std::sync::ledger::{Blank, Ledger};
 /// Segments of the pool from which a generated song is played.
 const SEGMENTS: u16 = 16_384;
 
-/// What is told of a song that was played.
+/// What is said of a song that was played.
 #[derive(Clone, Copy)]
 pub struct Measure {
     /// How many ticks it took.
@@ -42,7 +42,7 @@ fn raised(peak: u16, numbers: &[i16]) -> u16
     most
 }
 
-/// Plays so many frames of what a player plays, tick by tick; the last tick is cut.
+/// Plays that many frames of what a player plays, tick by tick; the last tick is cut.
 fn measure_ticks<L: Ledger>(
     player: &mut Player,
     shared: &Shared,
@@ -72,7 +72,7 @@ fn measure_ticks<L: Ledger>(
     measure
 }
 
-/// Plays so many frames of the song of a stage, from its beginning, as `put_song` does.
+/// Plays that many frames of the song of a stage, from its beginning, as `put_song` does.
 #[tactic(auto, unfolding(crate::specs::Measure::ticks_of_song, crate::specs::Measure::peak_of_song))]
 fn measure_song<L: Ledger>(
     blank: Blank,
@@ -103,9 +103,9 @@ fn measure_song<L: Ledger>(
     measure
 }
 
-/// Plays so many frames of a song from its beginning, from a pool of 16,384 segments, and tells how
-/// many ticks that took, and how loud it was. `rate` is 8,000 to 48,000 frames a second. The song
-/// has no more blocks than the pool has segments.
+/// Plays that many frames of a song from its beginning, from a pool of 16,384 segments, and answers
+/// how many ticks that took, and how loud it was. `rate` is 8,000 to 48,000 frames a second. The
+/// song has no more blocks than the pool has segments.
 pub fn measured(alloc: Global, song: &Module, rate: u32, frames: u32) -> Result<Measure, NoMemory>
     requires valid { IsValid song.now }
     requires few { blocks_of song.now ≤ 16384 }

@@ -27,8 +27,8 @@ use std::sync::ledger::{Blank, Ledger};
 /// Room for the numbers of the longest tick: 3,750 frames, left and right, and a frame more.
 pub const TICK_NUMBERS: usize = 7_502;
 
-/// Writes so many frames of what a player plays, tick by tick; the last tick is cut. Whatever
-/// stands behind the player, where that is one version alone, it is the replay of this version.
+/// Writes that many frames of what a player plays, tick by tick; the last tick is cut. Whatever is
+/// behind the player, where that is one version alone, it is the replay of this version.
 fn put_ticks<W: Sink, L: Ledger>(
     player: &mut Player,
     shared: &Shared,
@@ -64,8 +64,8 @@ fn put_ticks<W: Sink, L: Ledger>(
     Ok(())
 }
 
-/// Writes so many frames of the song of a stage, from its beginning. Afterwards the pass is given
-/// up: so what was played is known to be what stands in the register's history.
+/// Writes that many frames of the song of a stage, from its beginning. Afterwards the pass is given
+/// up: so what was played is known to be what is in the register's history.
 fn put_song<W: Sink, L: Ledger>(
     blank: Blank,
     stage: Stage,

@@ -44,8 +44,8 @@ pub fn run_plain<S: Source, W: Sink, L: Sink>(
 ) -> Status
     requires counted { S.given song.old < 2 ^ 63 }
 
-    // Words are refused exactly where they are no command; where the first of them names none, no
-    // memory is wanting either.
+    // Words are refused exactly where they are no command; where the first of them names none,
+    // memory doesn't run out either.
     ensures usage { result ≡ Status.Usage → IsRefused (texts words.now) }
     ensures refused_words { IsRefused (texts words.now) → RefusesWords result }
     ensures no_command { IsNoCommand (texts words.now) → result ≡ Status.Usage }
@@ -68,9 +68,9 @@ pub fn run_plain<S: Source, W: Sink, L: Sink>(
     ensures gen_reads_nothing { AskForGen (texts words.now) → song.new ≡ song.old }
     ensures words_first { IsRefused (texts words.now) → song.new ≡ song.old }
 
-    // The pool of `step` is too small exactly where the song wants more segments than the words
-    // ask for. Where words and song are taken, the pool has room, and nothing outside fails, all
-    // is written, unless memory is wanting.
+    // The pool of `step` is too small exactly where the song wants more segments than the words ask
+    // for. Where words and song are taken, the pool has room, and nothing outside fails, all is
+    // written, unless memory runs out.
     ensures pool { (step : Step) → IsAskedBy (texts words.now) (Asked.Step step)
         → TellsPool (S.left song.old) step.segments result }
     ensures complete { (what : What) → IsAskedBy (texts words.now) what
@@ -79,7 +79,7 @@ pub fn run_plain<S: Source, W: Sink, L: Sink>(
         → NeverRose (W.faults wav.old) (W.faults wav.new)
         → NeverRose (L.faults ledger.old) (L.faults ledger.new) → IsDone result }
 
-    // A fault of the outside is told by its status alone, which comes only where it was counted.
+    // A fault of the outside is named by its status alone, which comes only where it was counted.
     ensures song_count { IsCounted Status.SongRead result (S.faults song.old) (S.faults song.new) }
     ensures wav_count { IsCounted Status.WavWrite result (W.faults wav.old) (W.faults wav.new) }
     ensures ledger_count { IsCounted Status.LedgerWrite result
@@ -101,7 +101,8 @@ pub fn run_plain<S: Source, W: Sink, L: Sink>(
         × Appends (W.held wav.old) (W.held wav.new) (canon (generated number))
         × TakesFront (L.held ledger.old) (L.held ledger.new) (gen_line number) }
 
-    // Nothing else is written. Where memory is wanting for the line of `gen` its song may stand.
+    // Nothing else is written. Where memory runs out for the line of `gen`, its song may be
+    // written.
     ensures unwritten { IsBeforePlay result → (AskForGen (texts words.now) → ⊥)
         → wav.new ≡ wav.old }
     ensures no_memory { result ≡ Status.NoMemory → AskForGen (texts words.now)

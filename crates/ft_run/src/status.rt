@@ -9,7 +9,7 @@ use std::fmt;
 /// Why a song is refused.
 #[derive(Clone, Copy, Debug, PartialEq, Eq)]
 pub enum SongFault {
-    /// Its bytes have this fault, which is never want of memory.
+    /// Its bytes have this fault, which is never that of running out of memory.
     Xm(XmFault),
     /// It has more than 67,108,864 bytes.
     TooBig,
@@ -37,7 +37,7 @@ pub enum Status {
         /// The segments of the pool, 64 to 65,535.
         segments: u16,
     },
-    /// Memory was wanting.
+    /// Out of memory.
     NoMemory,
     /// A script ended before its end.
     HandEnded,

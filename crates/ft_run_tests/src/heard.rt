@@ -246,7 +246,7 @@ fn is_within(at: usize, starts: &[usize], long: usize) -> bool {
         .any(|start| *start <= at && at - *start < long)
 }
 
-/// Whether the sound of a WAV file of so many frames is heard just in the frames of the row.
+/// Whether the sound of a WAV file of that many frames is heard just in the frames of the row.
 fn is_heard(outcome: &Outcome, frames: u16, starts: &[usize], long: usize) -> bool {
     let sound = outcome.wav.bytes().chunks_exact(4).skip(11);
     let right = sound.enumerate().all(|(at, frame)| {
@@ -270,11 +270,11 @@ fn notes_are_heard_where_the_song_has_them(rt: HostRuntime) {
     }
 }
 
-/// Other bytes at a place of the song of one note, which give so many frames of 2,048 at the rate at
-/// which C-4 plays a frame of the sample for each frame of sound. An octave higher there are two. A
-/// small letter in the identification, another mark behind the name, a tempo of 0 that is read as 1,
-/// no rows that are read as 64, another type of instrument, a volume over 64, a loop without a frame,
-/// and bytes behind the song change nothing.
+/// Other bytes at a place of the song of one note, which give that many frames of 2,048 at the rate
+/// at which C-4 plays a frame of the sample for each frame of sound. An octave higher there are
+/// two. A small letter in the identification, another mark behind the name, a tempo of 0 that is
+/// read as 1, no rows that are read as 64, another type of instrument, a volume over 64, a loop
+/// without a frame, and bytes behind the song change nothing.
 static NOTES: [(usize, &[u8], u8); 10] = [
     (346, &[49], 4),
     (346, &[61], 2),
@@ -288,7 +288,7 @@ static NOTES: [(usize, &[u8], u8); 10] = [
     (782, b"more", 4),
 ];
 
-/// Whether a WAV file begins with so many frames of 2,048 on both sides, and is silent from there
+/// Whether a WAV file begins with that many frames of 2,048 on both sides, and is silent from there
 /// on.
 fn is_note(outcome: &Outcome, frames: u8) -> bool {
     let heard = 4 * usize::from(frames);

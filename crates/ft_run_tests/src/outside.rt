@@ -124,7 +124,7 @@ impl Sink for Stumbling {
     }
 }
 
-/// The status of a run whose output fails behind so many calls, and how often it called a sink
+/// The status of a run whose output fails after that many calls, and how often it called a sink
 /// after that.
 fn stumbled(alloc: Global, text: &str, calls: u32) -> Result<(Status, u64), AllocError> {
     let words = words_of(alloc, text)?;
@@ -137,7 +137,7 @@ fn stumbled(alloc: Global, text: &str, calls: u32) -> Result<(Status, u64), Allo
     ))
 }
 
-/// Outputs that fail behind so many calls.
+/// Outputs that fail after that many calls.
 static STUMBLES: [(&str, u32); 6] = [
     (SECOND, 0),
     (SECOND, 1),

@@ -1,4 +1,4 @@
-//! Songs in pools of so many segments.
+//! Songs in pools of that many segments.
 
 use crate::runs::{End, end_of, is_refused};
 use ft_run::Status;
@@ -67,7 +67,7 @@ fn a_pool_that_is_too_small_is_told_and_nothing_is_written(rt: HostRuntime) -> R
     Ok(())
 }
 
-/// Whether the words end so on a song, with so many bytes of sound and no ledger.
+/// Whether the words end so on a song, with that many bytes of sound and no ledger.
 fn ends_so(alloc: Global, text: &str, song: &[u8], status: Status, wav: u64) -> bool {
     match end_of(alloc, text, song) {
         Ok(

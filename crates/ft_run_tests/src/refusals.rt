@@ -26,7 +26,7 @@ static FIELDS: [(u64, u32); 15] = [
     (80, 256),
 ];
 
-/// The fault of a file that was cut behind so many bytes of the silent song.
+/// The fault of a file that was cut after that many bytes of the silent song.
 fn short_of(len: u64) -> Status {
     match FIELDS
         .iter()
@@ -44,7 +44,7 @@ fn fault(fault: XmFault) -> Status {
     Status::Song(SongFault::Xm(fault))
 }
 
-/// Whether the front of a song of so many bytes is refused so.
+/// Whether the front of a song of that many bytes is refused so.
 fn is_cut(alloc: Global, song: &[u8], len: usize, status: Status) -> bool {
     match song.get(..len) {
         Some(front) => is_refused(alloc, SECOND, front, status),

@@ -48,7 +48,7 @@ index-root-used s k ids index at e =
     let part = get_or-le-sum_by (index_uses s) ids.indexes k index (slice_get_within ids.indexes k index at) in
     omega arith
 
--- what stands at a place is contained
+-- what is at a place is contained
 contained : (xs : List ℕ) (k s x : ℕ) → slice_get xs k ≡ Some x → s ≡ x → Contains xs s
 contained xs k s x at e =
     (k, slice_get_within xs k x at, get_or_from_slice_get xs k x s at ∙ sym e)

@@ -3,7 +3,7 @@ use Rattle.std.specs.Prelude.{◌≡◌, ◌⊎◌, ◌<◌, ℕ, Contains, Some
 use Rattle.std.specs.List.{slice_get}
 use Rattle.ft_segments.specs.Walk.{IndexIds, sample_walk, Placed, IsOf}
 
--- so many ids stand in the words of a sample's root, from word 16 on
+-- that many ids are in the words of a sample's root, from word 16 on
 abbrev pub index_room : ℕ
 index_room = 960
 

@@ -64,7 +64,7 @@ frames_in pool root = digit 4294967296 (word_at pool root 0) 0
 abbrev pub bodies_in : List ℕ → ℕ → ℕ
 bodies_in pool root = pieces_of (frames_in pool root) 1024
 
--- of so many bodies, those of index k: 1,024, or what is left
+-- of that many bodies, those of index k: 1,024, or what is left
 abbrev pub bodies_of_index : ℕ → ℕ → ℕ
 bodies_of_index bodies k = min 1024 (bodies - 1024 * k)
 
@@ -142,7 +142,7 @@ ids_of placed = walk placed.pool placed.root
 abbrev pub IsOf : Placed → ℕ → Type 0
 IsOf placed segment = 1 ≤ uses segment (ids_of placed)
 
--- the walk stays among so many segments, and names each once
+-- the walk stays among that many segments, and names each once
 pub record IsSound (segments : ℕ) (ids : SongIds) : Type 0 where
   pub once : (segment : ℕ) → uses segment ids ≤ 1
   pub within : (segment : ℕ) → 1 ≤ uses segment ids → segment < segments

@@ -13,7 +13,7 @@ pub fn sample_stays()
 {}
 
 /// The segments of a sample of a version are the version's.
-pub fn sample_is_of_it()
+pub fn sample_segments_are_of_the_version()
     ensures { SampleIsOfIt }
 {}
 

@@ -10,5 +10,5 @@ mod laws;
 
 pub use laws::{
     a_bare_root_names_itself, a_pin_holds_its_sample, a_walk_reads_words_alone,
-    held_by_a_pin_is_named, sample_is_of_it, sample_stays,
+    held_by_a_pin_is_named, sample_segments_are_of_the_version, sample_stays,
 };

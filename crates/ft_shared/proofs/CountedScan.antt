@@ -1,4 +1,4 @@
--- The count of what a scan found tells which segments it found.
+-- The count of what a scan found says which segments it found.
 use Rattle.std.proofs.Common.{◌≡◌, ◌↔◌, inl, inr, ℕ, zero, suc, ◌+◌, ◌≤◌, nat_lt, refl, ap, subst, arith, Option, Some, None, IsSomeAnd, lt-ltb}
 use Rattle.std.specs.List.{Contains}
 use mathlib.Core.Logic.{dite}
@@ -8,7 +8,7 @@ use Rattle.ft_shared.specs.declared.law.PlacedVersion.{PlacedVersion}
 use Rattle.ft_shared.specs.declared.law.PinAnswer.{PinAnswer}
 use Rattle.ft_shared.specs.declared.law.Account.{Account}
 use Rattle.ft_shared.specs.Counts.{bit, total, sum_below}
-use Rattle.ft_shared.specs.History.{placed_at, place_of, IsOfVersion}
+use Rattle.ft_shared.specs.History.{placed_at, root_and_pool, IsOfVersion}
 use Rattle.ft_shared.specs.Account.{IsAnswered, IsPinAnswer, pin_answer, Found}
 use Rattle.ft_shared.specs.Free.{uses_placed, answer_uses, root_uses, pin_uses, finds, is_found, found_in_pool, free_in_pool}
 use Rattle.ft_shared.proofs.Sums.{bit-le, sum_below-le}
@@ -20,11 +20,11 @@ low (suc n) h = absurd (h (omega arith))
 
 -- ---- a segment is counted exactly where it was found
 
-of_uses : (o : Option PlacedVersion) (s : ℕ) → 1 ≤ uses_placed s o → IsSomeAnd o (λ placed. IsOf (place_of placed) s)
+of_uses : (o : Option PlacedVersion) (s : ℕ) → 1 ≤ uses_placed s o → IsSomeAnd o (λ placed. IsOf (root_and_pool placed) s)
 of_uses None s l = absurd (omega arith)
 of_uses (Some placed) s l = l
 
-uses_of : (o : Option PlacedVersion) (s : ℕ) → IsSomeAnd o (λ placed. IsOf (place_of placed) s) → 1 ≤ uses_placed s o
+uses_of : (o : Option PlacedVersion) (s : ℕ) → IsSomeAnd o (λ placed. IsOf (root_and_pool placed) s) → 1 ≤ uses_placed s o
 uses_of None s l = absurd l
 uses_of (Some placed) s l = l
 

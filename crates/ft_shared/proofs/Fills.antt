@@ -16,7 +16,7 @@ use Rattle.ft_shared.specs.declared.law.View.{View}
 use Rattle.ft_shared.specs.declared.law.View.TheVariants.{Writer}
 use Rattle.ft_shared.specs.Layout.{current_word, segment_at}
 use Rattle.ft_shared.specs.Counts.{one, has_number, grip_of, holders, pin_amount}
-use Rattle.ft_shared.specs.History.{place_of}
+use Rattle.ft_shared.specs.History.{root_and_pool}
 use Rattle.ft_shared.specs.Account.{account_of, MayFill, after_read, after_fill}
 use Rattle.ft_shared.specs.Register.{TableState, SeatView, RegisterRule}
 use Rattle.ft_shared.specs.Plays.{IsPoolRead, IsFill}
@@ -91,7 +91,7 @@ module _ (key : Opening) where
               channel,
               pin,
               e,
-              subst (λ (o : Option PlacedVersion). IsSomeAnd o (λ q. PinHolds (place_of q) pin.root s))
+              subst (λ (o : Option PlacedVersion). IsSomeAnd o (λ q. PinHolds (root_and_pool q) pin.root s))
                   (sym is) holds,
             )))) rule.segments);
         settled = λ j x e. stands_still key a b (slice_index_or a.settled j x) refl (λ k. refl) refl (rule.settled j x e);

@@ -14,7 +14,7 @@ use Rattle.ft_shared.specs.declared.law.Hold.{Hold}
 use Rattle.ft_shared.specs.declared.law.Account.{Account}
 use Rattle.ft_shared.specs.declared.law.View.{View}
 use Rattle.ft_shared.specs.Counts.{IsBehind, pin_of}
-use Rattle.ft_shared.specs.History.{IsOfVersion, placed_at, place_of}
+use Rattle.ft_shared.specs.History.{IsOfVersion, placed_at, root_and_pool}
 use Rattle.ft_shared.specs.Account.{IsWhole, IsPinAnswer, IsAnswered, Found}
 use Rattle.ft_shared.specs.Segments.{IsAsPlaced}
 use Rattle.ft_shared.specs.HeldSegments.{IsOfPin, IsHeldBy, IsHeld}
@@ -49,7 +49,7 @@ module _ (key : Opening) (names : NamesHeld) where
   finds_pinned : (state : TableState) (rule : RegisterRule key state) → IsWhole key.sizes rule.account
       → (seat : ℕ) (view : View) (hold : Hold) → get_elem? state.views seat ≡ some view → IsBehind view hold → (s channel : ℕ) (pin : Pin)
       → pin_of hold.notes channel ≡ Some pin
-      → (placed : PlacedVersion) → placed_at rule.account.history pin.version ≡ Some placed → PinHolds (place_of placed) pin.root s
+      → (placed : PlacedVersion) → placed_at rule.account.history pin.version ≡ Some placed → PinHolds (root_and_pool placed) pin.root s
       → Found rule.account s
   finds_pinned state rule whole seat view hold at behind s channel pin is placed there holds =
       let a : Account = rule.account in
@@ -58,15 +58,21 @@ module _ (key : Opening) (names : NamesHeld) where
       let channels : length hold.notes.pins ≡ key.sizes.channels = kept.wide ∙ ap (λ (z : Sizes). z.channels) rule.told in
       let small : hold.notes.number < key.sizes.readers = number-small key state rule seat view hold at behind in
       let less : channel < length hold.notes.pins = has-place hold.notes.pins channel pin is in
-      let unwritten : (segment : ℕ) → PinHolds (place_of placed) pin.root segment → IsAsPlaced a placed segment =
-      subst (λ (o : Option PlacedVersion). IfSome o (λ q. (segment : ℕ) → PinHolds (place_of q) pin.root segment
+      let unwritten : (segment : ℕ) → PinHolds (root_and_pool placed) pin.root segment → IsAsPlaced a placed segment =
+      subst (λ (o : Option PlacedVersion). IfSome o (λ q. (segment : ℕ) → PinHolds (root_and_pool q) pin.root segment
       → IsAsPlaced a q segment)) there stands.unwritten in
       ⊎_elim (λ (f : IsPinAnswer a hold.notes.number channel (Some pin.root)).
-      inr (inr (hold.notes.number, channel, pin.root, f, names (place_of placed) a.pool pin.root s (λ held h. (unwritten held h).0) holds)))
+      inr (inr (
+        hold.notes.number,
+        channel,
+        pin.root,
+        f,
+        names (root_and_pool placed) a.pool pin.root s (λ held h. (unwritten held h).0) holds,
+      )))
       (λ (f : IsAnswered a pin.version). inr (inl (
         pin.version,
         f,
-        subst (λ (o : Option PlacedVersion). IsSomeAnd o (λ q. IsOf (place_of q) s)) (sym there) holds.1,
+        subst (λ (o : Option PlacedVersion). IsSomeAnd o (λ q. IsOf (root_and_pool q) s)) (sym there) holds.1,
       )))
       (rule.segments.scanned seat view hold at behind channel pin is (whole.1 hold.notes.number channel small (omega arith)))
 
@@ -80,7 +86,7 @@ module _ (key : Opening) (names : NamesHeld) where
       (placed_at rule.account.history pin.version) refl of
     where
       go : (o : Option PlacedVersion) → placed_at rule.account.history pin.version ≡ o
-          → IsSomeAnd o (λ q. PinHolds (place_of q) pin.root s) → Found rule.account s
+          → IsSomeAnd o (λ q. PinHolds (root_and_pool q) pin.root s) → Found rule.account s
       go None e holds = absurd holds
       go (Some placed) e holds = finds_pinned state rule whole seat view hold at behind s channel pin is placed e holds
 
@@ -115,8 +121,8 @@ pin_adds a n channel root s answered (inr (c, pin, is, of)) = dite (ℕ_discrete
     (subst (λ (k : ℕ). pin_of (note_pin n channel root) k ≡ Some pin) e is)) of))
     (λ (e : c ≢ channel). inl (inr (c, pin, sym (get_or-set_other n.pins channel c (pin_from n.held root) None e) ∙ is, of)))
   where
-    some-of : (o : Option PlacedVersion) (root : ℕ) → IsSomeAnd o (λ q. PinHolds (place_of q) root s)
-        → IsSomeAnd o (λ q. IsOf (place_of q) s)
+    some-of : (o : Option PlacedVersion) (root : ℕ) → IsSomeAnd o (λ q. PinHolds (root_and_pool q) root s)
+        → IsSomeAnd o (λ q. IsOf (root_and_pool q) s)
     some-of None root h = absurd h
     some-of (Some q) root h = h.1
 

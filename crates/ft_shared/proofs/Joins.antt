@@ -17,10 +17,10 @@ use Rattle.ft_shared.specs.declared.law.View.{View}
 use Rattle.ft_shared.specs.declared.law.View.TheVariants.{Spent, Reader, Writer, Told}
 use Rattle.ft_shared.specs.Layout.{current_word, version_in}
 use Rattle.ft_shared.specs.Counts.{total, pass_sum, one, has_number, grip_of, holders, IsBehind, pin_amount}
-use Rattle.ft_shared.specs.Account.{hold_of, account_of, told_of, after_note, after_join, after_learning, last_settled}
+use Rattle.ft_shared.specs.Account.{hold_of, account_of, told_of, after_note_made, after_join, after_learning, last_settled}
 use Rattle.ft_shared.specs.History.{Agrees, AreSound}
-use Rattle.ft_shared.specs.Segments.{IsKept, KeepsHeld, ArePinsScanned}
-use Rattle.ft_shared.specs.Register.{TableState, SeatView, Stands, Fits, RegisterRule}
+use Rattle.ft_shared.specs.Segments.{IsHoldUnwritten, KeepsHeld, ArePinsScanned}
+use Rattle.ft_shared.specs.Register.{TableState, SeatView, PassRule, Fits, RegisterRule}
 use Rattle.ft_shared.specs.Plays.{after_making, made_note, after_hear, heard, IsLearning, joined, after_giving_back, resumed_hold, first_back, given_back}
 use Rattle.ft_shared.proofs.Sums.{total-set, total-append, at-le}
 use Rattle.ft_shared.proofs.Segments.{is_there, keeps_held, segments_still, segments_passes}
@@ -73,7 +73,7 @@ module _ (key : Opening) where
   regrouped : (state : TableState) (rule : RegisterRule key state) (settled : List Hold) (steps : List WordStep) (views : List View)
       → ((f : Hold → ℕ) → SeesElse f → total (pass_sum f) views ≡ total (pass_sum f) state.views)
       → ((hold : Hold) → Seated views hold → Was state.views hold)
-      → All (Stands key rule.account) settled
+      → All (PassRule key rule.account) settled
       → ((seat : ℕ) (view : View) → get_elem? views seat ≡ some view
       → Fits key (record rule.account { settled = settled; steps = steps }) rule.writer seat view)
       → RegisterRule key record { words = state.words; homes = state.homes; views = views }
@@ -108,7 +108,7 @@ module _ (key : Opening) where
             (λ seat view hold at behind.
             let w = was hold (record { seat = seat; view = view; at = at; behind = behind }) in
             let k = rule.segments.kept w.seated.seat w.seated.view w.old w.seated.at w.seated.behind in
-            subst (IsKept b) w.is (record {
+            subst (IsHoldUnwritten b) w.is (record {
               held = k.held;
               wide = k.wide;
               pins = λ c pin e. let p = k.pins c pin e in record { small = p.small; known = p.known; unwritten = p.unwritten };
@@ -144,12 +144,12 @@ module _ (key : Opening) where
       → RegisterRule key record {
         words = state.words;
         homes = state.homes;
-        views = set state.views id (Writer (after_note rule.account)) ++ Told
+        views = set state.views id (Writer (after_note_made rule.account)) ++ Told
             (record { sizes = rule.account.sizes; version = rule.account.version }) ∷ [];
       }
   noted_at state rule id at writes =
       let a : Account = rule.account in
-      let b : Account = after_note a in
+      let b : Account = after_note_made a in
       let t : ToldVersion = record { sizes = a.sizes; version = a.version } in
       let mid : List View = set state.views id (Writer b) in
       regrouped state rule a.settled b.steps (mid ++ Told t ∷ [])
@@ -175,7 +175,7 @@ module _ (key : Opening) where
           → RegisterRule key record {
             words = state.words;
             homes = state.homes;
-            views = set state.views id (Writer (after_note y)) ++ Told (record { sizes = y.sizes; version = y.version }) ∷ [];
+            views = set state.views id (Writer (after_note_made y)) ++ Told (record { sizes = y.sizes; version = y.version }) ∷ [];
           })
           (sym same.0) (λ t. noted_at state rule id t same.1) at
 
@@ -191,7 +191,7 @@ module _ (key : Opening) where
       let note = rule.each_seat other (Told t) was in
       let seen : h.notes.seen ≤ a.version = mine.past in
       let told : t.version ≤ a.version = note.past in
-      let stands : Stands key a h' = record {
+      let stands : PassRule key a h' = record {
         told = mine.told;
         past = omega arith;
         recent = mine.recent;
@@ -243,7 +243,7 @@ module _ (key : Opening) where
       let b : Account = after_join a h in
       let mid : List View = set state.views id (Writer b) in
       let was : get_elem? state.views other ≡ some (Reader h) = sym (set_else state.views id other (Writer b) apart) ∙ there in
-      let mine : Stands key a h = rule.each_seat other (Reader h) was in
+      let mine : PassRule key a h = rule.each_seat other (Reader h) was in
       regrouped state rule b.settled b.steps (set mid other Spent)
       (λ f still. let x = total-set (pass_sum f) state.views id (Writer a) (Writer b) at in
       let y = total-set (pass_sum f) mid other (Reader h) Spent there in omega arith)
@@ -257,7 +257,7 @@ module _ (key : Opening) where
       (record { seat = s.seat; view = s.view; at = u.1; behind = s.behind }))
       (at_set state.views id s.seat (Writer b) s.view e.1))
       (at_set mid other s.seat Spent s.view s.at))
-      (All-cons (Stands key a) h a.settled mine rule.settled)
+      (All-cons (PassRule key a) h a.settled mine rule.settled)
       (λ j v e. ⊎_elim (λ (u : (j ≡ other) × (Spent ≡ v)). subst (Fits key b rule.writer j) u.1 tt)
       (λ (u : (j ≢ other) × (get_elem? mid j ≡ some v)). seats_still key state rule id writes b refl (λ k. refl) refl j v u.1)
       (at_set mid other j Spent v e))
@@ -329,18 +329,18 @@ module _ (key : Opening) where
       → RegisterRule key record {
         words = state.words;
         homes = state.homes;
-        views = set state.views id (Writer (record (after_note rule.account) { settled = hs })) ++ Reader
+        views = set state.views id (Writer (record (after_note_made rule.account) { settled = hs })) ++ Reader
             (resumed_hold h rule.account.version) ∷ [];
       }
   resumed_at state rule id h hs at writes has =
       let a : Account = rule.account in
-      let b : Account = record (after_note a) { settled = hs } in
+      let b : Account = record (after_note_made a) { settled = hs } in
       let h' : Hold = resumed_hold h a.version in
       let mid : List View = set state.views id (Writer b) in
-      let all : All (Stands key a) (h ∷ hs) = subst (All (Stands key a)) has rule.settled in
-      let mine : Stands key a h = All-head (Stands key a) h hs all in
+      let all : All (PassRule key a) (h ∷ hs) = subst (All (PassRule key a)) has rule.settled in
+      let mine : PassRule key a h = All-head (PassRule key a) h hs all in
       let seen : h.notes.seen ≤ a.version = mine.past in
-      let stands : Stands key b h' = record {
+      let stands : PassRule key b h' = record {
         told = mine.told;
         past = omega arith;
         recent = mine.recent;
@@ -373,7 +373,7 @@ module _ (key : Opening) where
         is = subst (λ (v : View). IsBehind v hold) (sym e) s.behind;
       })
       (at_snoc mid (Reader h') s.view s.seat s.at))
-      (All-tail (Stands key a) h hs all)
+      (All-tail (PassRule key a) h hs all)
       (λ j v e. ⊎_elim (λ (u : get_elem? mid j ≡ some v). seats_still key state rule id writes b refl (λ k. refl) refl j v u)
       (λ (u : Reader h' ≡ v). subst (Fits key b rule.writer j) u stands)
       (at_snoc mid (Reader h') v j e))
@@ -391,12 +391,12 @@ module _ (key : Opening) where
           subst (λ (l : List Hold). RegisterRule key record {
             words = state.words;
             homes = state.homes;
-            views = set state.views id (Writer (record (after_note e) { settled = drop 1 l })) ++ first_back l e.version ∷ [];
+            views = set state.views id (Writer (record (after_note_made e) { settled = drop 1 l })) ++ first_back l e.version ∷ [];
           }) (sym has)
           (subst (λ (y : Account). get_elem? state.views id ≡ some (Writer y) → y.settled ≡ h ∷ hs
           → RegisterRule key record {
             words = state.words;
             homes = state.homes;
-            views = set state.views id (Writer (record (after_note y) { settled = hs })) ++ Reader (resumed_hold h y.version) ∷ [];
+            views = set state.views id (Writer (record (after_note_made y) { settled = hs })) ++ Reader (resumed_hold h y.version) ∷ [];
           })
           (sym same.0) (λ t l. resumed_at state rule id h hs t same.1 l) at has)

@@ -15,7 +15,7 @@ use Rattle.ft_shared.specs.declared.law.View.TheVariants.{Writer}
 use Rattle.ft_segments.specs.Packing.{word_at}
 use Rattle.ft_segments.specs.Walk.{IsOf, IsSound, walk}
 use Rattle.ft_shared.specs.Counts.{IsBehind}
-use Rattle.ft_shared.specs.History.{placed_at, place_of, HasVersion, IsSoundVersion}
+use Rattle.ft_shared.specs.History.{placed_at, root_and_pool, HasVersion, IsSoundVersion}
 use Rattle.ft_shared.specs.Layout.{current_word, pool_at}
 use Rattle.ft_shared.specs.Account.{slot_at, no_slot, new_slot, first_account, pool_of}
 use Rattle.ft_shared.specs.Segments.{IsAsPlaced}
@@ -137,7 +137,7 @@ module _ (key : Opening) where
           sound = all_one (IsSoundVersion key.sizes.segments) p1
               (subst (λ (l : List ℕ). IsSound key.sizes.segments (walk l key.root)) (sym pool-is) is_sound);
           current = subst (λ (o : Option PlacedVersion). IfSome o
-              (λ placed. (segment : ℕ) → IsOf (place_of placed) segment → IsAsPlaced a placed segment)) (sym here)
+              (λ placed. (segment : ℕ) → IsOf (root_and_pool placed) segment → IsAsPlaced a placed segment)) (sym here)
               (λ segment of. ((λ place l. refl), filled-at key.version key.sizes.segments segment));
           borne = λ k l. subst (HasVersion a.history) (sym (version-of-slot k (omega arith))) (ap is_there here);
           answers = λ k l. absurd (omega arith);

@@ -25,9 +25,9 @@ use Rattle.ft_shared.specs.declared.law.View.{View}
 use Rattle.ft_shared.specs.declared.law.View.TheVariants.{Spent, Reader, Writer, Told}
 use Rattle.ft_shared.specs.Layout.{current_word, pin_at, segment_at}
 use Rattle.ft_shared.specs.Counts.{bit, total, pass_sum, one, has_number, grip, grip_of, holders, IsBehind, pin_of, pin_word, pin_amount}
-use Rattle.ft_shared.specs.History.{placed_at, place_of, HasRead}
+use Rattle.ft_shared.specs.History.{placed_at, root_and_pool, HasRead}
 use Rattle.ft_shared.specs.Account.{slot_at, hold_of, account_of, SlotsAreMet, pinned_root, pin_answer, after_pin_scan, IsPinAnswer, IsPinMet, IsAnswered, AreAllSettled, IsSettledReader}
-use Rattle.ft_shared.specs.Segments.{IsAsPlaced, IsUnwritten, IsStanding, IsKept}
+use Rattle.ft_shared.specs.Segments.{IsAsPlaced, IsUnwritten, IsStanding, IsHoldUnwritten}
 use Rattle.ft_shared.specs.Register.{TableState, SeatView, RegisterRule}
 use Rattle.ft_shared.specs.Pass.{pin_from, note_pin, note_unpin, pin_read}
 use Rattle.ft_shared.specs.Plays.{after_pin, after_unpin, after_pinned_word, IsPin, IsUnpin, IsPinnedRead, IsPinScan}
@@ -110,7 +110,8 @@ module _ (key : Opening) where
       (pin_word (pin_of h.notes c)) z) state.views seat view hold at behind (number-most state rule n) (omega arith)
       ∙ ap (λ (b : Bool). cond b (pin_word (pin_of hold.notes c)) 0) (eq-eqb n n refl)
 
-  word-small : (a : Account) (hold : Hold) → IsKept a hold → (c : ℕ) (o : Option Pin) → pin_of hold.notes c ≡ o → pin_word o ≤ 65536
+  word-small : (a : Account) (hold : Hold) → IsHoldUnwritten a hold → (c : ℕ) (o : Option Pin) → pin_of hold.notes c ≡ o
+      → pin_word o ≤ 65536
   word-small a hold kept c None e = omega arith
   word-small a hold kept c (Some pin) e = let s = (kept.pins c pin e).small in omega arith
 
@@ -281,11 +282,12 @@ module _ (key : Opening) where
       set-word (Some t) root s = refl
 
       holds-less : (a : Account) (v root : ℕ) → IsUnwritten a v
-          → IfSome (placed_at a.history v) (λ placed. (segment : ℕ) → PinHolds (place_of placed) root segment → IsAsPlaced a placed segment)
+          → IfSome (placed_at a.history v) (λ placed. (segment : ℕ) → PinHolds (root_and_pool placed) root segment
+          → IsAsPlaced a placed segment)
       holds-less a v root u = go (placed_at a.history v) u
         where
-          go : (o : Option PlacedVersion) → IfSome o (λ placed. (segment : ℕ) → IsOf (place_of placed) segment
-              → IsAsPlaced a placed segment) → IfSome o (λ placed. (segment : ℕ) → PinHolds (place_of placed) root segment
+          go : (o : Option PlacedVersion) → IfSome o (λ placed. (segment : ℕ) → IsOf (root_and_pool placed) segment
+              → IsAsPlaced a placed segment) → IfSome o (λ placed. (segment : ℕ) → PinHolds (root_and_pool placed) root segment
               → IsAsPlaced a placed segment)
           go None u = tt
           go (Some p) u = λ segment holds. u segment holds.1
@@ -392,7 +394,7 @@ module _ (key : Opening) where
           no e = cc
       all-some (Some x) Q R s q f = f x q
 
-      pin-had : (a : Account) (h : Hold) → IsKept a h → (channel s p w : ℕ) → p < 256 → w ≡ word_at a.pool s p → (o : Option Pin)
+      pin-had : (a : Account) (h : Hold) → IsHoldUnwritten a h → (channel s p w : ℕ) → p < 256 → w ≡ word_at a.pool s p → (o : Option Pin)
           → pin_of h.notes channel ≡ o → All (HasRead a.history) (pin_read o s p w)
       pin-had a h kept channel s p w few found None e = all_none (HasRead a.history)
       pin-had a h kept channel s p w few found (Some pin) e =
@@ -400,8 +402,8 @@ module _ (key : Opening) where
           let stands = kept.pins channel pin e in
           all_one (HasRead a.history) r
           (all-some (placed_at a.history pin.version)
-          (λ placed. (segment : ℕ) → PinHolds (place_of placed) pin.root segment → IsAsPlaced a placed segment)
-          (λ placed. PinHolds (place_of placed) pin.root s → word_at placed.pool s p ≡ w)
+          (λ placed. (segment : ℕ) → PinHolds (root_and_pool placed) pin.root segment → IsAsPlaced a placed segment)
+          (λ placed. PinHolds (root_and_pool placed) pin.root s → word_at placed.pool s p ≡ w)
           stands.known stands.unwritten
           (λ placed q holds. sym ((q s holds).0 p few) ∙ sym found))
 

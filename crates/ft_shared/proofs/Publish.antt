@@ -23,7 +23,7 @@ use Rattle.ft_shared.specs.Layout.{current_word, slot_in, root_in, count_in}
 use Rattle.ft_shared.specs.Counts.{bit, sum_below, pass_sum, one, has_number, grip, grip_of, holders, pin_amount}
 use Rattle.ft_shared.specs.History.{placed_at, IsReadable, Agrees, IsHistory}
 use Rattle.ft_shared.specs.Account.{slot_at, no_slot, account_of, after_clear, after_publish}
-use Rattle.ft_shared.specs.Register.{TableState, SeatView, Stands, Fits, amount, scan_count, marks, RegisterRule}
+use Rattle.ft_shared.specs.Register.{TableState, SeatView, PassRule, Fits, amount, scan_count, marks, RegisterRule}
 use Rattle.ft_shared.specs.Plays.{IsClear, IsPublish}
 use Rattle.ft_shared.proofs.Sums.{at-le, index-le, set-keeps, slot-of, root-of, count-of, amount-le, sum_below-le, all-but-one}
 use Rattle.ft_shared.proofs.Segments.{is_there, some_is, placed_grows, placed_none, placed_new, still_there, segments_still, segments_seat, segments_published}
@@ -210,8 +210,8 @@ module _ (key : Opening) where
       let l = length-set a.slots a.slot old in
       get_or-set_same (set a.slots a.slot old) k new no_slot (omega arith)
 
-  -- a pass that holds nothing in the chosen slot stands after the publish
-  stands_next : (a : Account) (k root n : ℕ) (h : Hold) → grip_of k h ≡ 0 → Stands key a h → Stands key (after_publish a k root n) h
+  -- a pass that holds nothing in the chosen slot keeps its rule after the publish
+  stands_next : (a : Account) (k root n : ℕ) (h : Hold) → grip_of k h ≡ 0 → PassRule key a h → PassRule key (after_publish a k root n) h
   stands_next a k root n h empty f = record {
     told = f.told;
     past = let l = f.past in omega arith;

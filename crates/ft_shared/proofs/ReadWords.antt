@@ -12,7 +12,7 @@ use Rattle.ft_shared.specs.declared.law.TakenVersion.{TakenVersion}
 use Rattle.ft_shared.specs.declared.law.WordRead.{WordRead}
 use Rattle.ft_shared.specs.declared.law.WordStep.{WordStep}
 use Rattle.ft_shared.specs.Counts.{pin_of}
-use Rattle.ft_shared.specs.History.{placed_at, place_of, IsReadable, HasRead, Agrees}
+use Rattle.ft_shared.specs.History.{placed_at, root_and_pool, IsReadable, HasRead, Agrees}
 use Rattle.ft_shared.specs.Pass.{held_read, pin_read, note_word, note_pinned_word}
 
 pub fewer_reads : (h : List PlacedVersion) (n : Notes) (more : List WordRead) (steps : List WordStep)
@@ -37,7 +37,7 @@ word-of h r placed has found readable =
 
 pub held_word : (h : List PlacedVersion) (n : Notes) (segment at word : ℕ) (taken : TakenVersion) (placed : PlacedVersion)
     → Agrees h (note_word n segment at word) → n.held ≡ Some taken → placed_at h taken.version ≡ Some placed
-    → IsOf (place_of placed) segment → word ≡ word_at placed.pool segment at
+    → IsOf (root_and_pool placed) segment → word ≡ word_at placed.pool segment at
 held_word h n segment at word taken placed a held found of =
     let r : WordRead = record { version = taken.version; pin = None; segment = segment; at = at; word = word } in
     word-of h r placed
@@ -46,7 +46,7 @@ held_word h n segment at word taken placed a held found of =
 
 pub pinned_word : (h : List PlacedVersion) (n : Notes) (channel segment at word : ℕ) (pin : Pin) (placed : PlacedVersion)
     → Agrees h (note_pinned_word n channel segment at word) → pin_of n channel ≡ Some pin
-    → placed_at h pin.version ≡ Some placed → PinHolds (place_of placed) pin.root segment → word ≡ word_at placed.pool segment at
+    → placed_at h pin.version ≡ Some placed → PinHolds (root_and_pool placed) pin.root segment → word ≡ word_at placed.pool segment at
 pinned_word h n channel segment at word pin placed a stands found holds =
     let r : WordRead = record { version = pin.version; pin = Some pin.root; segment = segment; at = at; word = word } in
     word-of h r placed

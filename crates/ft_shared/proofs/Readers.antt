@@ -21,10 +21,10 @@ use Rattle.ft_shared.specs.declared.law.View.{View}
 use Rattle.ft_shared.specs.declared.law.View.TheVariants.{Spent, Reader, Writer, Told}
 use Rattle.ft_shared.specs.Layout.{current_word, pin_at, pool_at, segment_at, version_in, slot_in, root_in}
 use Rattle.ft_shared.specs.Counts.{bit, total, sum_below, pass_sum, one, has_number, grip, grip_of, holders, IsBehind, pin_word, pin_amount}
-use Rattle.ft_shared.specs.History.{placed_at, place_of, HasVersion, HasTakenVersion, HasRead}
+use Rattle.ft_shared.specs.History.{placed_at, root_and_pool, HasVersion, HasTakenVersion, HasRead}
 use Rattle.ft_shared.specs.Account.{slot_at, hold_of}
-use Rattle.ft_shared.specs.Segments.{IsAsPlaced, IsUnwritten, IsKept, ArePinsScanned}
-use Rattle.ft_shared.specs.Register.{TableState, SeatView, Stands, Fits, scan_count, RegisterRule}
+use Rattle.ft_shared.specs.Segments.{IsAsPlaced, IsUnwritten, IsHoldUnwritten, ArePinsScanned}
+use Rattle.ft_shared.specs.Register.{TableState, SeatView, PassRule, Fits, scan_count, RegisterRule}
 use Rattle.ft_shared.specs.Pass.{held_read}
 use Rattle.ft_shared.specs.Plays.{after_look, after_take, after_word, after_leave, IsLook, IsTake, IsWordRead, IsLeave}
 use Rattle.ft_shared.proofs.Sums.{total-set, total-le, all_one, passes-le, version-of, slot-of, root-of, amount-le, sum_below-le}
@@ -54,8 +54,8 @@ held_reads a h s p w few had kept found (Some t) e =
     all_one (HasRead a.history) r
     (some_then (placed_at a.history t.version)
     (λ placed. placed.root ≡ t.root)
-    (λ placed. (segment : ℕ) → IsOf (place_of placed) segment → IsAsPlaced a placed segment)
-    (λ placed. IsOf (place_of placed) s → word_at placed.pool s p ≡ w)
+    (λ placed. (segment : ℕ) → IsOf (root_and_pool placed) segment → IsAsPlaced a placed segment)
+    (λ placed. IsOf (root_and_pool placed) s → word_at placed.pool s p ≡ w)
     (had t e) (kept t e)
     (λ placed _ q of. sym ((q s of).0 p few) ∙ sym found))
 
@@ -85,15 +85,15 @@ module _ (key : Opening) where
       ap root_in rule.current ∙ root-of rule.account.version rule.account.slot rule.account.root (holders rule.account.slot state.views)
       (omega arith) z.1 (omega arith)
 
-  -- a pass behind a seat stands
+  -- a pass behind a seat keeps its rule
   pub stands_behind : (state : TableState) (rule : RegisterRule key state) (seat : ℕ) (view : View) (hold : Hold)
-      → get_elem? state.views seat ≡ some view → IsBehind view hold → Stands key rule.account hold
+      → get_elem? state.views seat ≡ some view → IsBehind view hold → PassRule key rule.account hold
   stands_behind state rule seat Spent hold at behind = absurd behind
   stands_behind state rule seat (Told t) hold at behind = absurd behind
-  stands_behind state rule seat (Reader other) hold at behind = subst (Stands key rule.account) behind
+  stands_behind state rule seat (Reader other) hold at behind = subst (PassRule key rule.account) behind
       (rule.each_seat seat (Reader other) at)
   stands_behind state rule seat (Writer e) hold at behind =
-      All-contains (Stands key rule.account) rule.account.settled hold rule.settled
+      All-contains (PassRule key rule.account) rule.account.settled hold rule.settled
       (subst (λ (a : Account). Contains a.settled hold) (rule.each_seat seat (Writer e) at).0 behind)
 
   -- what a scan counts does not grow where no slot but the current one has more holders
@@ -121,7 +121,7 @@ module _ (key : Opening) where
   -- the reader at the seat id goes from h to h', and the words become ws
   pub reader_step : (state : TableState) (rule : RegisterRule key state) (id : ℕ) (h h' : Hold) (words : List ℕ)
       → get_elem? state.views id ≡ some (Reader h) → length words ≡ length state.words
-      → h'.notes.number ≡ h.notes.number → Stands key rule.account h' → IsKept rule.account h' → ArePinsScanned rule.account h'
+      → h'.notes.number ≡ h.notes.number → PassRule key rule.account h' → IsHoldUnwritten rule.account h' → ArePinsScanned rule.account h'
       → ((i : ℕ) → get_or words (pool_at key.sizes + i) 0 ≡ get_or state.words (pool_at key.sizes + i) 0)
       → ((r c : ℕ) → r < key.sizes.readers → c < key.sizes.channels
       → get_or words (pin_at key.sizes r c) 0 ≡ total (pass_sum (pin_amount r c)) (set state.views id (Reader h')))

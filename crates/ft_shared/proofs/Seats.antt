@@ -10,7 +10,7 @@ use Rattle.ft_shared.specs.declared.writer.WriterPass.TheInside.{Inside as Write
 use Rattle.ft_shared.specs.Counts.{sum_below}
 use Rattle.ft_shared.specs.Account.{hold_of, account_of, SlotsAreMet}
 use Rattle.ft_shared.specs.Register.{SeatView, marks}
-use Rattle.ft_shared.specs.Pass.{IsKeptPass, no_pass, AreKept}
+use Rattle.ft_shared.specs.Pass.{IsKeptPass, no_pass, ArePassesKept}
 use Rattle.ft_shared.specs.Inner.{hold_in, account_in, IsReaderPass, IsWriterPass}
 
 pub reader_seated : (m : SeatView) (h : Hold) → m ≡ (Reader h, []) → m ≡ (Reader (hold_of m.0), [])
@@ -58,14 +58,14 @@ writer_still pass new b is now same =
       deep = is.deep;
       many = (ap (λ (z : Account). length z.settled) e ∙ is.many.0, is.many.1);
       room = is.room;
-      settled = subst (λ (z : Account). AreKept z.sizes pass.settled z.settled) (sym e) is.settled;
+      settled = subst (λ (z : Account). ArePassesKept z.sizes pass.settled z.settled) (sym e) is.settled;
       whole = subst (λ (z : Account). SlotsAreMet z.sizes z → sum_below (marks z) (pass.readers + 2) ≤ pass.readers) (sym e) is.whole;
     }
 
 -- what is kept of passes lies below their number
 kept_below : (sizes : Sizes) (kept new : List KeptPass) (hs : List Hold)
     → ((k : ℕ) → k < length hs → slice_index_or new k no_pass ≡ slice_index_or kept k no_pass)
-    → AreKept sizes kept hs → AreKept sizes new hs
+    → ArePassesKept sizes kept hs → ArePassesKept sizes new hs
 kept_below sizes kept new [] same are = tt
 kept_below sizes kept new (h ∷ hs) same are = (
   subst (IsKeptPass sizes h) (sym (same (length hs) (omega arith))) are.0,
@@ -98,7 +98,7 @@ writer_settled pass new h kept b is now same few keeps =
       deep = is.deep;
       many = (ap (λ (z : Account). length z.settled) e ∙ omega arith, omega arith);
       room = length-set pass.settled pass.many kept ∙ is.room;
-      settled = subst (λ (z : Account). AreKept z.sizes (set pass.settled pass.many kept) z.settled) (sym e) (
+      settled = subst (λ (z : Account). ArePassesKept z.sizes (set pass.settled pass.many kept) z.settled) (sym e) (
         subst (IsKeptPass old.sizes h) (sym here) keeps,
         kept_below old.sizes pass.settled (set pass.settled pass.many kept) old.settled
             (λ k l. get_or-set_other pass.settled pass.many k kept no_pass (λ t. omega arith)) is.settled,

@@ -20,9 +20,9 @@ use Rattle.ft_shared.specs.declared.law.Account.{Account}
 use Rattle.ft_shared.specs.declared.law.View.{View}
 use Rattle.ft_shared.specs.declared.law.View.TheVariants.{Reader, Writer}
 use Rattle.ft_shared.specs.Counts.{IsBehind, pin_of}
-use Rattle.ft_shared.specs.History.{placed_at, place_of, HasVersion, IsOfVersion, IsSoundVersion, AreSound}
+use Rattle.ft_shared.specs.History.{placed_at, root_and_pool, HasVersion, IsOfVersion, IsSoundVersion, AreSound}
 use Rattle.ft_shared.specs.Account.{slot_at, pin_answer, IsPinMet, IsAnswered, after_learning, after_fill, after_publish}
-use Rattle.ft_shared.specs.Segments.{IsAsPlaced, IsUnwritten, IsStanding, IsKept, KeepsHeld, ArePinsScanned, slot_answer, SegmentRule}
+use Rattle.ft_shared.specs.Segments.{IsAsPlaced, IsUnwritten, IsStanding, IsHoldUnwritten, KeepsHeld, ArePinsScanned, slot_answer, SegmentRule}
 
 -- ---- versions of a history by their numbers
 
@@ -102,7 +102,7 @@ placed_sound (x ∷ xs) segments v p all at =
         subst (IsSoundVersion segments) same (All-head (IsSoundVersion segments) x xs all)
     pick false rest e = rest e
 
--- where the versions stand in order, each is found by its number
+-- where the versions are in order, each is found by its number
 pub placed_in_order : (h : List PlacedVersion) (first : ℕ) → ((n : ℕ) (p : PlacedVersion) → get_elem? h n ≡ some p → p.version ≡ first + n)
     → (n : ℕ) (p : PlacedVersion) → slice_get h n ≡ Some p → placed_at h (first + n) ≡ Some p
 placed_in_order [] first order n p at = absurd (no at)
@@ -137,8 +137,9 @@ pin_still a b pin hs ps fs k =
     (λ i. (sym hs i, sym ps i, sym fs i)) k in
     record { small = moved.small; known = moved.known; unwritten = moved.unwritten }
 
-pub kept_still : (a b : Account) (h : Hold) → b.sizes ≡ a.sizes → b.history ≡ a.history → b.pool ≡ a.pool → b.filled ≡ a.filled → IsKept a h
-    → IsKept b h
+pub kept_still : (a b : Account) (h : Hold) → b.sizes ≡ a.sizes → b.history ≡ a.history → b.pool ≡ a.pool → b.filled ≡ a.filled
+    → IsHoldUnwritten a h
+    → IsHoldUnwritten b h
 kept_still a b h zs hs ps fs k = record {
   held = λ t e. unwritten_still a b t.version hs ps fs (k.held t e);
   wide = k.wide ∙ ap (λ (z : Sizes). z.channels) (sym zs);
@@ -199,7 +200,7 @@ module _ (sizes : Sizes) where
   -- the seats have other views, behind which nothing else is held or pinned
   pub segments_passes : (old views : List View) (a : Account)
       → ((seat : ℕ) (view : View) (hold : Hold) → get_elem? views seat ≡ some view → IsBehind view hold → ArePinsScanned a hold)
-      → ((seat : ℕ) (view : View) (hold : Hold) → get_elem? views seat ≡ some view → IsBehind view hold → IsKept a hold)
+      → ((seat : ℕ) (view : View) (hold : Hold) → get_elem? views seat ≡ some view → IsBehind view hold → IsHoldUnwritten a hold)
       → SegmentRule sizes old a → SegmentRule sizes views a
   segments_passes old views a scanned kept rule = record {
     filled = rule.filled;
@@ -237,7 +238,7 @@ module _ (sizes : Sizes) where
   }
 
   -- a reader's seat has what is kept
-  pub segments_reader : (views : List View) (a : Account) (id : ℕ) (h : Hold) → IsKept a h → ArePinsScanned a h
+  pub segments_reader : (views : List View) (a : Account) (id : ℕ) (h : Hold) → IsHoldUnwritten a h → ArePinsScanned a h
       → SegmentRule sizes views a → SegmentRule sizes (set views id (Reader h)) a
   segments_reader views a id h kept met rule = record {
     filled = rule.filled;
@@ -252,13 +253,13 @@ module _ (sizes : Sizes) where
         (λ (t : (seat ≢ id) × (get_elem? views seat ≡ some view)). rule.scanned seat view hold t.1 behind)
         (at_set views id seat (Reader h) view e);
     kept = λ seat view hold e behind. ⊎_elim
-        (λ (t : (seat ≡ id) × (Reader h ≡ view)). subst (IsKept a) (subst (λ (v : View). IsBehind v hold) (sym t.1) behind) kept)
+        (λ (t : (seat ≡ id) × (Reader h ≡ view)). subst (IsHoldUnwritten a) (subst (λ (v : View). IsBehind v hold) (sym t.1) behind) kept)
         (λ (t : (seat ≢ id) × (get_elem? views seat ≡ some view)). rule.kept seat view hold t.1 behind)
         (at_set views id seat (Reader h) view e);
   }
 
   -- one more reader has a seat
-  pub segments_more : (views : List View) (a : Account) (h : Hold) → IsKept a h → ArePinsScanned a h → SegmentRule sizes views a
+  pub segments_more : (views : List View) (a : Account) (h : Hold) → IsHoldUnwritten a h → ArePinsScanned a h → SegmentRule sizes views a
       → SegmentRule sizes (views ++ Reader h ∷ []) a
   segments_more views a h kept met rule = record {
     filled = rule.filled;
@@ -274,7 +275,7 @@ module _ (sizes : Sizes) where
         (at_snoc views (Reader h) view seat e);
     kept = λ seat view hold e behind. ⊎_elim
         (λ (t : get_elem? views seat ≡ some view). rule.kept seat view hold t behind)
-        (λ (t : Reader h ≡ view). subst (IsKept a) (subst (λ (v : View). IsBehind v hold) (sym t) behind) kept)
+        (λ (t : Reader h ≡ view). subst (IsHoldUnwritten a) (subst (λ (v : View). IsBehind v hold) (sym t) behind) kept)
         (at_snoc views (Reader h) view seat e);
   }
 
@@ -286,10 +287,10 @@ module _ (sizes : Sizes) where
   unwritten_grows a b p v hs ps fs there u =
       let c : Account = record a { history = a.history ++ p ∷ [] } in
       unwritten_still c b v hs ps fs (subst (λ (o : Option PlacedVersion). IfSome o
-      (λ placed. (segment : ℕ) → IsOf (place_of placed) segment → IsAsPlaced a placed segment))
+      (λ placed. (segment : ℕ) → IsOf (root_and_pool placed) segment → IsAsPlaced a placed segment))
       (sym (placed_grows a.history (p ∷ []) v there)) u)
 
-  -- a pin stands when the history grows
+  -- a pin holds when the history grows
   standing_grows : (a b : Account) (p : PlacedVersion) (pin : Pin) → b.history ≡ a.history ++ p ∷ [] → b.pool ≡ a.pool
       → b.filled ≡ a.filled → IsStanding a pin → IsStanding b pin
   standing_grows a b p pin hs ps fs k =
@@ -299,14 +300,15 @@ module _ (sizes : Sizes) where
         small = k.small;
         known = subst (λ (o : Option PlacedVersion). IsSome o) (sym grows) k.known;
         unwritten = subst (λ (o : Option PlacedVersion). IfSome o
-            (λ placed. (segment : ℕ) → PinHolds (place_of placed) pin.root segment → IsAsPlaced a placed segment)) (sym grows) k.unwritten;
+            (λ placed. (segment : ℕ) → PinHolds (root_and_pool placed) pin.root segment → IsAsPlaced a placed segment))
+            (sym grows) k.unwritten;
       })
 
   -- the new version is the words as they are
   unwritten_new : (a b : Account) (p : PlacedVersion) → placed_at b.history p.version ≡ Some p → p.pool ≡ b.pool
       → ((k : ℕ) → slice_index b.filled k ≤ p.version) → IsUnwritten b p.version
   unwritten_new a b p new pool fs = subst (λ (o : Option PlacedVersion). IfSome o
-      (λ placed. (segment : ℕ) → IsOf (place_of placed) segment → IsAsPlaced b placed segment)) (sym new)
+      (λ placed. (segment : ℕ) → IsOf (root_and_pool placed) segment → IsAsPlaced b placed segment)) (sym new)
       (λ segment of. ((λ place l. ap (λ (ws : List ℕ). word_at ws segment place) (sym pool)), fs segment))
 
   pub segments_published : (views : List View) (a : Account) (k root n : ℕ)
@@ -359,15 +361,16 @@ module _ (sizes : Sizes) where
       → IsUnwritten (after_fill a s at w) v
   unwritten_else a s at w v few apart u = go (placed_at a.history v) apart u
     where
-      go : (o : Option PlacedVersion) → (IsSomeAnd o (λ placed. IsOf (place_of placed) s) → ⊥)
-          → IfSome o (λ placed. (segment : ℕ) → IsOf (place_of placed) segment → IsAsPlaced a placed segment)
-          → IfSome o (λ placed. (segment : ℕ) → IsOf (place_of placed) segment → IsAsPlaced (after_fill a s at w) placed segment)
+      go : (o : Option PlacedVersion) → (IsSomeAnd o (λ placed. IsOf (root_and_pool placed) s) → ⊥)
+          → IfSome o (λ placed. (segment : ℕ) → IsOf (root_and_pool placed) segment → IsAsPlaced a placed segment)
+          → IfSome o (λ placed. (segment : ℕ) → IsOf (root_and_pool placed) segment → IsAsPlaced (after_fill a s at w) placed segment)
       go None apart u = tt
-      go (Some p) apart u = λ segment of. filled_else a s at w segment p few (λ e. apart (subst (IsOf (place_of p)) e of)) (u segment of)
+      go (Some p) apart u = λ segment of. filled_else a s at w segment p few (λ e. apart (subst (IsOf (root_and_pool p)) e of))
+          (u segment of)
 
-  -- a pin that doesn't hold the segment stands
+  -- a pin that doesn't hold the segment stays as it was
   standing_else : (a : Account) (s at w : ℕ) (pin : Pin) → at < 256
-      → ((placed : PlacedVersion) → placed_at a.history pin.version ≡ Some placed → PinHolds (place_of placed) pin.root s → ⊥)
+      → ((placed : PlacedVersion) → placed_at a.history pin.version ≡ Some placed → PinHolds (root_and_pool placed) pin.root s → ⊥)
       → IsStanding a pin → IsStanding (after_fill a s at w) pin
   standing_else a s at w pin few apart k = record {
     small = k.small;
@@ -376,12 +379,12 @@ module _ (sizes : Sizes) where
   }
     where
       go : (o : Option PlacedVersion) → placed_at a.history pin.version ≡ o
-          → IfSome o (λ placed. (segment : ℕ) → PinHolds (place_of placed) pin.root segment → IsAsPlaced a placed segment)
-          → IfSome o (λ placed. (segment : ℕ) → PinHolds (place_of placed) pin.root segment
+          → IfSome o (λ placed. (segment : ℕ) → PinHolds (root_and_pool placed) pin.root segment → IsAsPlaced a placed segment)
+          → IfSome o (λ placed. (segment : ℕ) → PinHolds (root_and_pool placed) pin.root segment
           → IsAsPlaced (after_fill a s at w) placed segment)
       go None e u = tt
       go (Some p) e u = λ segment holds. filled_else a s at w segment p few
-          (λ same. apart p e (subst (PinHolds (place_of p) pin.root) same holds)) (u segment holds)
+          (λ same. apart p e (subst (PinHolds (root_and_pool p) pin.root) same holds)) (u segment holds)
 
   pub segments_filled : (views : List View) (a : Account) (s at w : ℕ) → at < 256 → (IsOfVersion a.history a.version s → ⊥)
       → ((v : ℕ) → IsAnswered a v → IsOfVersion a.history v s → ⊥)
@@ -389,7 +392,7 @@ module _ (sizes : Sizes) where
       → hold.notes.held ≡ Some t → IsOfVersion a.history t.version s → ⊥)
       → ((seat : ℕ) (view : View) (hold : Hold) → get_elem? views seat ≡ some view → IsBehind view hold → (channel : ℕ) (pin : Pin)
       → pin_of hold.notes channel ≡ Some pin
-      → (placed : PlacedVersion) → placed_at a.history pin.version ≡ Some placed → PinHolds (place_of placed) pin.root s → ⊥)
+      → (placed : PlacedVersion) → placed_at a.history pin.version ≡ Some placed → PinHolds (root_and_pool placed) pin.root s → ⊥)
       → SegmentRule sizes views a → SegmentRule sizes views (after_fill a s at w)
   segments_filled views a s at w few apart unanswered free unpinned rule = record {
     filled = (

@@ -10,9 +10,9 @@ use Rattle.ft_shared.specs.declared.law.Pin.{Pin}
 use Rattle.ft_shared.specs.declared.law.Hold.{Hold}
 use Rattle.ft_shared.specs.declared.law.Account.{Account}
 use Rattle.ft_shared.specs.Counts.{pin_of, pin_word}
-use Rattle.ft_shared.specs.History.{placed_at, place_of, IsOfVersion}
+use Rattle.ft_shared.specs.History.{placed_at, root_and_pool, IsOfVersion}
 use Rattle.ft_shared.specs.Account.{slot_at, pinned_root, pin_answer, IsWhole, IsHeldSlot, IsBorne, Found}
-use Rattle.ft_shared.specs.Segments.{IsAsPlaced, IsKept, KeepsHeld}
+use Rattle.ft_shared.specs.Segments.{IsAsPlaced, IsHoldUnwritten, KeepsHeld}
 use Rattle.ft_shared.specs.Free.{IsHeldSettled, IsExactScan, DoPinsHoldAll}
 use Rattle.ft_shared.proofs.Found.{NamesHeld, has-place}
 
@@ -34,9 +34,9 @@ pin-named : (o : Option Pin) (root : ℕ) → Some root ≡ pinned_root (pin_wor
 pin-named None root e = absurd cc
 pin-named (Some pin) root e = let same : Some root ≡ Some pin.root = e ∙ root-of-word pin.root in (pin, refl, cc)
 
-holds-of : (o : Option PlacedVersion) (placed : PlacedVersion) (root s : ℕ) → o ≡ Some placed → PinHolds (place_of placed) root s
-    → IsSomeAnd o (λ q. PinHolds (place_of q) root s)
-holds-of o placed root s e holds = subst (λ (z : Option PlacedVersion). IsSomeAnd z (λ q. PinHolds (place_of q) root s)) (sym e) holds
+holds-of : (o : Option PlacedVersion) (placed : PlacedVersion) (root s : ℕ) → o ≡ Some placed → PinHolds (root_and_pool placed) root s
+    → IsSomeAnd o (λ q. PinHolds (root_and_pool q) root s)
+holds-of o placed root s e holds = subst (λ (z : Option PlacedVersion). IsSomeAnd z (λ q. PinHolds (root_and_pool q) root s)) (sym e) holds
 
 module _ (names : NamesHeld) (a : Account) (exact : IsExactScan a) (whole : IsWhole a.sizes a) (keeps : KeepsHeld a)
     (borne : All (IsBorne a) a.settled) where
@@ -52,7 +52,7 @@ module _ (names : NamesHeld) (a : Account) (exact : IsExactScan a) (whole : IsWh
       some-is (slice_index_or a.scan hold.slot None) (slot_at a hold.slot).version some (exact.versions hold.slot) ∙ ap Some b.1 in
       inr (inl (taken.version, subst (Contains a.scan) is (Contains-get_or a.scan hold.slot None (omega arith)), of))
   held_found numbers s (inr (hold, there, inr (channel, pin, is, of))) =
-      let kept = each_of (IsKept a) a.settled hold keeps.settled there in
+      let kept = each_of (IsHoldUnwritten a) a.settled hold keeps.settled there in
       let less : channel < length hold.notes.pins = has-place hold.notes.pins channel pin is in
       let wide = kept.wide in
       let met = whole.1 hold.notes.number channel (numbers hold there) (omega arith) in
@@ -66,11 +66,11 @@ module _ (names : NamesHeld) (a : Account) (exact : IsExactScan a) (whole : IsWh
         go (placed_at a.history pin.version) of (kept.pins channel pin is).unwritten,
       ))
     where
-      go : (o : Option PlacedVersion) → IsSomeAnd o (λ q. PinHolds (place_of q) pin.root s)
-          → IfSome o (λ q. (segment : ℕ) → PinHolds (place_of q) pin.root segment → IsAsPlaced a q segment)
+      go : (o : Option PlacedVersion) → IsSomeAnd o (λ q. PinHolds (root_and_pool q) pin.root s)
+          → IfSome o (λ q. (segment : ℕ) → PinHolds (root_and_pool q) pin.root segment → IsAsPlaced a q segment)
           → 1 ≤ sample_uses s (sample_walk a.pool pin.root)
       go None holds unwritten = absurd holds
-      go (Some placed) holds unwritten = names (place_of placed) a.pool pin.root s (λ held h. (unwritten held h).0) holds
+      go (Some placed) holds unwritten = names (root_and_pool placed) a.pool pin.root s (λ held h. (unwritten held h).0) holds
 
   -- what is found is current or held
   found_held : (slot_at a a.slot).version ≡ a.version → DoPinsHoldAll a → (s : ℕ) → Found a s → IsHeldSettled a s

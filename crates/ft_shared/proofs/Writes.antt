@@ -25,8 +25,8 @@ use Rattle.ft_shared.specs.Counts.{total, sum_below, pass_sum, one, has_number, 
 use Rattle.ft_shared.specs.History.{HasVersion, HasTakenVersion, HasRead, Agrees}
 use Rattle.ft_shared.specs.Account.{slot_at, no_slot, account_of, new_notes, is_free, answer_of, AreAllSettled, IsHeldSlot, IsBorne, IsAnswered, after_begin, after_scan}
 use Rattle.ft_shared.specs.Segments.{IsUnwritten, KeepsHeld, ArePinsScanned, slot_answer}
-use Rattle.ft_shared.specs.Register.{TableState, SeatView, Stands, Fits, amount, scan_count, marks, RegisterRule}
-use Rattle.ft_shared.specs.Plays.{after_give, given_pass, IsScanBegin, IsSlotScan}
+use Rattle.ft_shared.specs.Register.{TableState, SeatView, PassRule, Fits, amount, scan_count, marks, RegisterRule}
+use Rattle.ft_shared.specs.Plays.{after_pass_given, given_pass, IsScanBegin, IsSlotScan}
 use Rattle.ft_shared.proofs.Sums.{total-set, total-append, set-keeps, numbers-more, amount-le, amount-new, amount-here, amount-scan, amount-met, ltb-next, sum_below-le, holding-sum_below}
 use Rattle.ft_shared.proofs.Segments.{no-answer, none-answered, keeps_held, kept_still, segments_still, segments_seat, segments_more}
 use Rattle.ft_shared.proofs.Exact.{slot_exact, grips, counting_pass}
@@ -61,9 +61,9 @@ no-pins true (suc n) zero = refl
 no-pins true (suc n) (suc c) = no-pins true n c
 
 module _ (key : Opening) where
-  -- a pass stands by an account that differs in nothing that it rests on
+  -- a pass keeps its rule by an account that differs in nothing that it rests on
   pub stands_still : (a b : Account) (h : Hold) → b.version ≡ a.version → ((k : ℕ) → (slot_at b k).version ≡ (slot_at a k).version)
-      → b.history ≡ a.history → Stands key a h → Stands key b h
+      → b.history ≡ a.history → PassRule key a h → PassRule key b h
   stands_still a b h v ks hs f = record {
     told = f.told;
     past = let l = f.past in omega arith;
@@ -163,11 +163,11 @@ module _ (key : Opening) where
 
   -- the writer's seat gives a reader its seat
   pub gives_one : (id : ℕ) (v : View) → v ≡ Writer (account_of v) → (z : Sizes) → (account_of v).sizes ≡ z
-      → (account_of v).given < z.readers → Splits (RegisterRule key) id v (after_give v) (given_pass v)
-  gives_one id v is z sizes less = subst (λ (w : View). Splits (RegisterRule key) id w (after_give w) (given_pass w)) (sym is)
+      → (account_of v).given < z.readers → Splits (RegisterRule key) id v (after_pass_given v) (given_pass v)
+  gives_one id v is z sizes less = subst (λ (w : View). Splits (RegisterRule key) id w (after_pass_given w) (given_pass w)) (sym is)
       (one_given (account_of v) (let n = ap (λ (y : Sizes). y.readers) sizes in omega arith))
     where
-      one_given : (e : Account) → e.given < e.sizes.readers → Splits (RegisterRule key) id (Writer e) (after_give (Writer e))
+      one_given : (e : Account) → e.given < e.sizes.readers → Splits (RegisterRule key) id (Writer e) (after_pass_given (Writer e))
           (given_pass (Writer e))
       one_given e few state rule at =
           let same : (e ≡ rule.account) × (id ≡ rule.writer) = rule.each_seat id (Writer e) at in

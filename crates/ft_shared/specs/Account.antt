@@ -102,15 +102,15 @@ abbrev pub told_or : ToldVersion → View → ToldVersion
 told_or default (Told told) = told
 told_or default _ = default
 
--- what the note behind a view tells
+-- what the note behind a view says
 abbrev pub told_of : View → ToldVersion
 told_of view = told_or (record { sizes = no_sizes; version = 0 }) view
 
 -- ---- notes, and settled passes
 
 -- a note of the current version was made, by one load of CURRENT
-abbrev pub after_note : Account → Account
-after_note account = record account { steps = account.steps ++ Load current_at ∷ [] }
+abbrev pub after_note_made : Account → Account
+after_note_made account = record account { steps = account.steps ++ Load current_at ∷ [] }
 
 -- a reader gave up its pass, which held and had noted this; by two loads of CURRENT
 abbrev pub after_settle : Account → Hold → Account

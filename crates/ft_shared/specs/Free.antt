@@ -8,14 +8,14 @@ use Rattle.ft_shared.specs.declared.law.PinAnswer.{PinAnswer}
 use Rattle.ft_shared.specs.declared.law.Hold.{Hold}
 use Rattle.ft_shared.specs.declared.law.Account.{Account}
 use Rattle.ft_shared.specs.Counts.{bit, total, sum_below, pin_of, pin_word}
-use Rattle.ft_shared.specs.History.{placed_at, place_of, IsOfVersion}
+use Rattle.ft_shared.specs.History.{placed_at, root_and_pool, IsOfVersion}
 use Rattle.ft_shared.specs.Account.{slot_at, pinned_root, IsHeldSlot, IsSettledReader}
 use Rattle.ft_shared.specs.HeldSegments.{IsHeldBy}
 
 -- how often a version names the segment
 abbrev pub uses_placed : ℕ → Option PlacedVersion → ℕ
 uses_placed segment None = 0
-uses_placed segment (Some placed) = uses segment (ids_of (place_of placed))
+uses_placed segment (Some placed) = uses segment (ids_of (root_and_pool placed))
 
 -- how often the version that was answered for a slot names it, by the history
 abbrev pub answer_uses : List PlacedVersion → ℕ → Option ℕ → ℕ
@@ -82,4 +82,4 @@ DoPinsHoldAll account =
     → pin_of hold.notes channel ≡ Some pin → (segment : ℕ)
     → 1 ≤ sample_uses segment (sample_walk account.pool pin.root)
     → (placed : PlacedVersion) × (placed_at account.history pin.version ≡ Some placed)
-    × PinHolds (place_of placed) pin.root segment
+    × PinHolds (root_and_pool placed) pin.root segment

@@ -11,13 +11,13 @@ use Rattle.ft_shared.specs.declared.law.Hold.{Hold}
 use Rattle.ft_shared.specs.declared.law.Account.{Account}
 use Rattle.ft_shared.specs.declared.law.View.{View}
 use Rattle.ft_shared.specs.Counts.{IsBehind, pin_of}
-use Rattle.ft_shared.specs.History.{placed_at, place_of, IsOfVersion}
+use Rattle.ft_shared.specs.History.{placed_at, root_and_pool, IsOfVersion}
 
 -- The segment is one that the pin holds of its version
 abbrev pub IsOfPin : List PlacedVersion → Pin → ℕ → Type 0
 IsOfPin history pin segment =
     IsSomeAnd (placed_at history pin.version) (λ placed.
-    PinHolds (place_of placed) pin.root segment)
+    PinHolds (root_and_pool placed) pin.root segment)
 
 -- A pass holds the segment: by the version that it holds, or by a pin
 abbrev pub IsHeldBy : List PlacedVersion → Notes → ℕ → Type 0

@@ -17,8 +17,8 @@ placed_at (placed ∷ history) version =
     if placed.version == version then Some placed else placed_at history version
 
 -- its root and the words of the pool
-abbrev pub place_of : PlacedVersion → Placed
-place_of placed = record { root = placed.root; pool = placed.pool }
+abbrev pub root_and_pool : PlacedVersion → Placed
+root_and_pool placed = record { root = placed.root; pool = placed.pool }
 
 -- The history has this version
 abbrev pub HasVersion : List PlacedVersion → ℕ → Type 0
@@ -32,13 +32,13 @@ HasTakenVersion history taken =
 -- The segment is one of the history's version of this number
 abbrev pub IsOfVersion : List PlacedVersion → ℕ → ℕ → Type 0
 IsOfVersion history version segment =
-    IsSomeAnd (placed_at history version) (λ placed. IsOf (place_of placed) segment)
+    IsSomeAnd (placed_at history version) (λ placed. IsOf (root_and_pool placed) segment)
 
 -- What may be read of a version: without a pin its segments, and by a pin those that the pin holds
 -- of it
 abbrev pub IsReadable : PlacedVersion → Option ℕ → ℕ → Type 0
-IsReadable placed None segment = IsOf (place_of placed) segment
-IsReadable placed (Some root) segment = PinHolds (place_of placed) root segment
+IsReadable placed None segment = IsOf (root_and_pool placed) segment
+IsReadable placed (Some root) segment = PinHolds (root_and_pool placed) root segment
 
 -- The history has the version that was read, and there the word that was read, where it may be read
 abbrev pub HasRead : List PlacedVersion → WordRead → Type 0
@@ -55,9 +55,9 @@ pub record Agrees (history : List PlacedVersion) (notes : Notes) : Type 0 where
   pub held : (taken : TakenVersion) → notes.held ≡ Some taken → HasTakenVersion history taken
   pub reads : All (HasRead history) notes.reads
 
--- The walk of a version stays among so many segments, and names each once
+-- The walk of a version stays among that many segments, and names each once
 abbrev pub IsSoundVersion : ℕ → PlacedVersion → Type 0
-IsSoundVersion segments placed = IsSound segments (ids_of (place_of placed))
+IsSoundVersion segments placed = IsSound segments (ids_of (root_and_pool placed))
 
 -- So does that of each version of the history
 abbrev pub AreSound : ℕ → List PlacedVersion → Type 0

@@ -10,7 +10,7 @@ use Rattle.ft_shared.specs.declared.notes.Note.TheInside.{Inside as NoteInside}
 use Rattle.ft_shared.specs.Counts.{sum_below}
 use Rattle.ft_shared.specs.Account.{hold_of, account_of, told_of, SlotsAreMet}
 use Rattle.ft_shared.specs.Register.{marks}
-use Rattle.ft_shared.specs.Pass.{ReaderState, WriterState, NoteState, reader_at, writer_at, note_at, AreKept}
+use Rattle.ft_shared.specs.Pass.{ReaderState, WriterState, NoteState, reader_at, writer_at, note_at, ArePassesKept}
 
 -- what a reader's pass knows, by its seat
 abbrev pub hold_in : ReaderInside → Hold
@@ -44,12 +44,12 @@ pub record IsWriterPass (pass : WriterInside) : Type 0 where
   -- what is kept of each settled pass
   pub many : (length (account_in pass).settled ≡ pass.many) × (pass.many ≤ 8)
   pub room : length pass.settled ≡ 8
-  pub settled : AreKept (account_in pass).sizes pass.settled (account_in pass).settled
+  pub settled : ArePassesKept (account_in pass).sizes pass.settled (account_in pass).settled
   -- a scan of all slots found at most as many slots held as there are readers
   pub whole : SlotsAreMet (account_in pass).sizes (account_in pass)
       → sum_below (marks (account_in pass)) (pass.readers + 2) ≤ pass.readers
 
--- what a note tells, by its seat
+-- what a note says, by its seat
 abbrev pub told_in : NoteInside → ToldVersion
 told_in note = told_of note.place.me.0
 

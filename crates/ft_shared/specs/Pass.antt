@@ -184,11 +184,11 @@ abbrev pub no_pass : KeptPass
 no_pass = record { slot = 0; number = 0 }
 
 -- The passes are kept in the order in which they were settled
-abbrev pub AreKept : Sizes → List KeptPass → List Hold → Type 0
-AreKept sizes kept [] = Unit {0}
-AreKept sizes kept (hold ∷ holds) =
+abbrev pub ArePassesKept : Sizes → List KeptPass → List Hold → Type 0
+ArePassesKept sizes kept [] = Unit {0}
+ArePassesKept sizes kept (hold ∷ holds) =
     IsKeptPass sizes hold (slice_index_or kept (length holds) no_pass)
-    × AreKept sizes kept holds
+    × ArePassesKept sizes kept holds
 
 -- A publish: it chose the first slot that was found free, and kept how many passes had taken the
 -- version before. It is one store to the leavers of that slot, and one swap of CURRENT.

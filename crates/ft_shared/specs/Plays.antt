@@ -11,7 +11,7 @@ use Rattle.ft_segments.specs.Packing.{word_at}
 use Rattle.ft_shared.specs.Layout.{current_at, leavers_at, pin_at, segment_at, version_in, slot_in, root_in, count_in}
 use Rattle.ft_shared.specs.Counts.{sum_below, pin_of, pin_word}
 use Rattle.ft_shared.specs.History.{placed_at, HasVersion, Agrees, AreSound}
-use Rattle.ft_shared.specs.Account.{hold_of, account_of, slot_at, next_slot, is_free, answer_of, AreAllSettled, IsHeldSlot, IsBorne, IsSettledReader, new_notes, after_note, after_join, after_learning, after_resume, after_begin, after_scan, after_pin_scan, after_read, after_fill, after_clear, after_publish}
+use Rattle.ft_shared.specs.Account.{hold_of, account_of, slot_at, next_slot, is_free, answer_of, AreAllSettled, IsHeldSlot, IsBorne, IsSettledReader, new_notes, after_note_made, after_join, after_learning, after_resume, after_begin, after_scan, after_pin_scan, after_read, after_fill, after_clear, after_publish}
 use Rattle.ft_shared.specs.Segments.{KeepsHeld}
 use Rattle.ft_shared.specs.Register.{SeatView, RegisterRule, marks}
 use Rattle.ft_shared.specs.Pass.{note_look, note_take, note_leave, note_word, note_seen, note_heard, pin_from, note_pin, note_unpin, note_pinned_word}
@@ -198,9 +198,9 @@ IsLearning step before found after =
 -- ---- a seat for a reader
 
 -- one more reader's pass is made
-abbrev pub after_give : View → View
-after_give (Writer account) = Writer (record account { given = account.given + 1 })
-after_give view = view
+abbrev pub after_pass_given : View → View
+after_pass_given (Writer account) = Writer (record account { given = account.given + 1 })
+after_pass_given view = view
 
 abbrev pub given_pass : View → View
 given_pass (Writer account) =
@@ -211,7 +211,7 @@ given_pass view = Spent
 
 -- the writer's seat gives a note of the current version a seat
 abbrev pub after_making : View → View
-after_making (Writer account) = Writer (after_note account)
+after_making (Writer account) = Writer (after_note_made account)
 after_making view = view
 
 abbrev pub made_note : View → View

@@ -25,7 +25,7 @@ abbrev pub SeatView : Type 0
 SeatView = Me (Unit {0}) View
 
 -- What holds of each reader's pass, whether it has a seat or was settled
-pub record Stands (key : Opening) (account : Account) (hold : Hold) : Type 0 where
+pub record PassRule (key : Opening) (account : Account) (hold : Hold) : Type 0 where
   pub told : hold.notes.sizes ≡ key.sizes
   -- no version above the current one was seen
   pub past : hold.notes.seen ≤ account.version
@@ -35,7 +35,7 @@ pub record Stands (key : Opening) (account : Account) (hold : Hold) : Type 0 whe
       → (hold.slot < key.sizes.readers + 2) × ((slot_at account hold.slot).version ≡ taken.version)
   pub agrees : Agrees account.history hold.notes
 
--- What holds of each note: it tells no version above the current one
+-- What holds of each note: it names no version above the current one
 pub record IsTold (key : Opening) (account : Account) (told : ToldVersion) : Type 0 where
   pub sizes : told.sizes ≡ key.sizes
   pub past : told.version ≤ account.version
@@ -43,7 +43,7 @@ pub record IsTold (key : Opening) (account : Account) (told : ToldVersion) : Typ
 -- Which view a seat may have: there is one writer, whose account this is
 abbrev pub Fits : Opening → Account → ℕ → ℕ → View → Type 0
 Fits key account writer seat Spent = Unit {0}
-Fits key account writer seat (Reader hold) = Stands key account hold
+Fits key account writer seat (Reader hold) = PassRule key account hold
 Fits key account writer seat (Writer other) = (other ≡ account) × (seat ≡ writer)
 Fits key account writer seat (Told told) = IsTold key account told
 
@@ -106,6 +106,6 @@ pub record RegisterRule (key : Opening) (state : TableState) : Type 0 where
   pub stored : (length account.pool ≡ 256 * key.sizes.segments)
       × ((n : ℕ) → slice_index state.words (pool_at key.sizes + n) ≡ slice_index account.pool n)
   pub segments : SegmentRule key.sizes state.views account
-  pub settled : All (Stands key account) account.settled
+  pub settled : All (PassRule key account) account.settled
   pub each_seat : (seat : ℕ) (view : View) → get_elem? state.views seat ≡ some view
       → Fits key account writer seat view

@@ -12,7 +12,7 @@ use Rattle.ft_shared.specs.declared.law.Hold.{Hold}
 use Rattle.ft_shared.specs.declared.law.Account.{Account}
 use Rattle.ft_shared.specs.declared.law.View.{View}
 use Rattle.ft_shared.specs.Counts.{IsBehind, pin_of}
-use Rattle.ft_shared.specs.History.{placed_at, place_of, HasVersion, AreSound}
+use Rattle.ft_shared.specs.History.{placed_at, root_and_pool, HasVersion, AreSound}
 use Rattle.ft_shared.specs.Account.{slot_at, IsAnswered, IsPinAnswer, IsPinMet}
 
 -- A segment of a version is as it was: its words are the version's, and it was last filled for that
@@ -25,22 +25,22 @@ IsAsPlaced account placed segment =
 -- No segment of the version was written since
 abbrev pub IsUnwritten : Account → ℕ → Type 0
 IsUnwritten account version = IfSome (placed_at account.history version) (λ placed.
-    (segment : ℕ) → IsOf (place_of placed) segment → IsAsPlaced account placed segment)
+    (segment : ℕ) → IsOf (root_and_pool placed) segment → IsAsPlaced account placed segment)
 
 -- Nothing that the pin holds of its version was written since
 abbrev pub IsPinUnwritten : Account → Pin → Type 0
 IsPinUnwritten account pin = IfSome (placed_at account.history pin.version) (λ placed.
-    (segment : ℕ) → PinHolds (place_of placed) pin.root segment
+    (segment : ℕ) → PinHolds (root_and_pool placed) pin.root segment
     → IsAsPlaced account placed segment)
 
--- A pin stands: its version is in the history, and nothing that it holds was written since
+-- What holds of a pin: its version is in the history, and nothing that it holds was written since
 pub record IsStanding (account : Account) (pin : Pin) : Type 0 where
   pub small : pin.root < 65536
   pub known : HasVersion account.history pin.version
   pub unwritten : IsPinUnwritten account pin
 
 -- What a pass holds was not written since
-pub record IsKept (account : Account) (hold : Hold) : Type 0 where
+pub record IsHoldUnwritten (account : Account) (hold : Hold) : Type 0 where
   pub held : (taken : TakenVersion) → hold.notes.held ≡ Some taken
       → IsUnwritten account taken.version
   pub wide : length hold.notes.pins ≡ account.sizes.channels
@@ -52,7 +52,7 @@ pub record IsKept (account : Account) (hold : Hold) : Type 0 where
 pub record KeepsHeld (account : Account) : Type 0 where
   pub current : IsUnwritten account account.version
   pub answered : (version : ℕ) → IsAnswered account version → IsUnwritten account version
-  pub settled : All (IsKept account) account.settled
+  pub settled : All (IsHoldUnwritten account) account.settled
 
 -- A pin that the scan looked at is the one that it found there, or was set from a version that it
 -- answered
@@ -90,4 +90,4 @@ pub record SegmentRule (sizes : Sizes) (views : List View) (account : Account) :
       → IsBehind view hold → ArePinsScanned account hold
   -- what is held was not written since, settled passes included
   pub kept : (seat : ℕ) (view : View) (hold : Hold) → get_elem? views seat ≡ some view
-      → IsBehind view hold → IsKept account hold
+      → IsBehind view hold → IsHoldUnwritten account hold

@@ -1,4 +1,4 @@
-//! What the table is told once, what each seat knows, and the rule.
+//! What the table is given once, what each seat knows, and the rule.
 //!
 //! Of `Sizes`, `Opening` and `Slot` values are made. The other types are for contracts
 //! alone: a clause reads an array in them as a list of any length.
@@ -17,8 +17,8 @@ pub struct Sizes {
     pub channels: u64,
 }
 
-/// What the table is told when it is made: its sizes, the first version with its root,
-/// and its words.
+/// What the table is given when it is made: its sizes, the first version with its root, and its
+/// words.
 #[derive(Drop)]
 pub(crate) struct Opening {
     pub sizes: Sizes,
@@ -76,7 +76,7 @@ pub struct PinAnswer {
     pub reader: u64,
     /// The channel, 0 to 31.
     pub channel: u64,
-    /// The root segment of the pin that stood, if one did.
+    /// The root segment of the pin that was set, if one was.
     pub root: Option<u64>,
 }
 
@@ -116,7 +116,7 @@ pub struct Hold {
     pub slot: u64,
 }
 
-/// What a note tells: a version that was current when the note was made.
+/// What a note says: a version that was current when the note was made.
 pub struct ToldVersion {
     pub sizes: Sizes,
     /// The version's number, 0 to 2^32 - 1.

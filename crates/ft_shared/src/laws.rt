@@ -70,7 +70,7 @@ pub fn the_history_agrees_with_each_pass()
 {}
 
 /// In a history, which is in order, the version at place n is found by the number first + n.
-pub fn a_version_stands_at_its_number()
+pub fn a_version_is_found_by_its_number()
     ensures { (history : List PlacedVersion) (first last root n : ℕ) (placed : PlacedVersion)
         → IsHistory history first last root → slice_get history n ≡ Some placed
         → placed_at history (first + n) ≡ Some placed }
@@ -78,7 +78,7 @@ pub fn a_version_stands_at_its_number()
 
 /// Until the next publish a reader's steps add no held segment that a whole scan did not find:
 /// a take holds the current version, and a pin is set from a version that the scan answered.
-pub fn a_take_or_a_pin_adds_nothing_unfound()
+pub fn a_take_or_a_pin_adds_found_segments_alone()
     ensures take { (account : Account) (notes : Notes) (taken : TakenVersion) (segment : ℕ)
         → taken.version ≡ account.version
         → IsHeldBy account.history (note_take notes taken) segment

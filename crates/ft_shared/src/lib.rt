@@ -2,8 +2,8 @@
 //! take the current one, read it, pin samples of it and leave it. No call but
 //! `Shared::open` takes memory, and none waits for another thread.
 //!
-//! docs/REGISTER.md tells how it works. The rule that every atomic step keeps is
-//! `RegisterRule` in `specs/Register.antt`; `laws` says what follows from it.
+//! docs/REGISTER.md says how it works. The rule that every atomic step keeps is `RegisterRule` in
+//! `specs/Register.antt`; `laws` says what follows from it.
 #![tactic(auto)]
 
 mod free;
@@ -28,9 +28,9 @@ pub use law::{
     WordRead, WordStep,
 };
 pub use laws::{
-    a_held_segment_is_as_placed, a_longer_history_agrees, a_take_or_a_pin_adds_nothing_unfound,
-    a_version_stands_at_its_number, a_whole_scan_finds_each_held_segment, each_version_is_sound,
-    the_history_agrees_with_each_pass,
+    a_held_segment_is_as_placed, a_longer_history_agrees,
+    a_take_or_a_pin_adds_found_segments_alone, a_version_is_found_by_its_number,
+    a_whole_scan_finds_each_held_segment, each_version_is_sound, the_history_agrees_with_each_pass,
 };
 pub use notes::Note;
 pub use passes::ReaderPasses;

@@ -1,7 +1,7 @@
 //! The writer makes a note of the current version, and a reader that hears it sees no older one
 //! from then on.
 ghost use Rattle.std.specs.Prelude.{◌≡◌, []};
-ghost use Rattle.ft_shared.specs.Account.{told_of, after_note};
+ghost use Rattle.ft_shared.specs.Account.{told_of, after_note_made};
 ghost use Rattle.ft_shared.specs.Pass.{note_heard, note_at};
 ghost use Rattle.ft_shared.specs.declared.law.View.TheVariants.{Told};
 
@@ -59,7 +59,7 @@ impl Shared {
     /// A note of the current version. One load.
     pub fn note(&self, pass: &mut WriterPass) -> Note
         requires { pass.old.register ≡ self.now }
-        ensures noted { pass.new ≡ record pass.old { account = after_note pass.old.account } }
+        ensures noted { pass.new ≡ record pass.old { account = after_note_made pass.old.account } }
         ensures note { result
             ≡ record { register = self.now; version = pass.old.account.version } }
     {

@@ -5,7 +5,7 @@ ghost use Rattle.ft_segments.specs.Walk.{IsSound, walk};
 ghost use Rattle.ft_shared.specs.Layout.{current_word, pool_at};
 ghost use Rattle.ft_shared.specs.Account.{account_of, pool_of};
 ghost use Rattle.ft_shared.specs.Pass.{opening_writer, fresh_pass, fresh_passes};
-ghost use Rattle.ft_shared.specs.Plays.{after_give};
+ghost use Rattle.ft_shared.specs.Plays.{after_pass_given};
 ghost use Rattle.ft_shared.specs.declared.law.View.TheVariants.{Writer};
 ghost use Rattle.ft_shared.specs.declared.shared.OpenFault.TheVariants.{PoolSmall, NoMemory};
 
@@ -138,7 +138,7 @@ impl Shared {
         requires next { (account_of place.old.me.0).given ≡ number }
         requires sizes { (account_of place.old.me.0).sizes ≡ self.now.sizes }
         ensures place { place.new.table_id ≡ place.old.table_id }
-        ensures writer { place.new.me ≡ (after_give place.old.me.0, []) }
+        ensures writer { place.new.me ≡ (after_pass_given place.old.me.0, []) }
         ensures pass { result ≡ fresh_pass self.now number }
     {
         ReaderPass::first(self.words.split_seat::<Give>(place), number)

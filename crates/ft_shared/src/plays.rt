@@ -1,6 +1,6 @@
 //! What each kind of step tells the seat that makes it.
 ghost use Rattle.std.specs.Prelude.{ℕ};
-ghost use Rattle.ft_shared.specs.Plays.{IsLook, IsTake, IsLeave, IsWordRead, IsPin, IsUnpin, IsPinnedRead, IsScanBegin, IsSlotScan, IsPinScan, IsPoolRead, IsFill, IsClear, IsPublish, after_give, given_pass, after_making, made_note, heard, IsLearning, joined, after_giving_back, given_back};
+ghost use Rattle.ft_shared.specs.Plays.{IsLook, IsTake, IsLeave, IsWordRead, IsPin, IsUnpin, IsPinnedRead, IsScanBegin, IsSlotScan, IsPinScan, IsPoolRead, IsFill, IsClear, IsPublish, after_pass_given, given_pass, after_making, made_note, heard, IsLearning, joined, after_giving_back, given_back};
 ghost use Rattle.ft_shared.specs.declared.law.View.TheVariants.{Spent};
 
 use crate::law::View;
@@ -83,7 +83,7 @@ impl<C: Pinned> Play<(), View> for ReadPinned<C> {
 pub(crate) struct Give;
 
 impl Split<View> for Give {
-    ghost left = { after_give };
+    ghost left = { after_pass_given };
 
     ghost right = { given_pass };
 }

@@ -11,7 +11,7 @@ ghost use Rattle.ft_shared.specs.declared.law.TakenVersion.{TakenVersion};
 ghost use Rattle.ft_shared.specs.declared.law.WordRead.{WordRead};
 ghost use Rattle.ft_shared.specs.declared.law.WordStep.{WordStep};
 ghost use Rattle.ft_shared.specs.Counts.{pin_of};
-ghost use Rattle.ft_shared.specs.History.{placed_at, place_of, Agrees};
+ghost use Rattle.ft_shared.specs.History.{placed_at, root_and_pool, Agrees};
 ghost use Rattle.ft_shared.specs.Pass.{note_word, note_pinned_word};
 
 /// A history that agrees with notes agrees with those before the last reads.
@@ -28,12 +28,12 @@ pub fn a_read_word_is_that_of_its_version()
     ensures held { (history : List PlacedVersion) (notes : Notes) (segment at word : ℕ)
         (taken : TakenVersion) (placed : PlacedVersion)
         → Agrees history (note_word notes segment at word) → notes.held ≡ Some taken
-        → placed_at history taken.version ≡ Some placed → IsOf (place_of placed) segment
+        → placed_at history taken.version ≡ Some placed → IsOf (root_and_pool placed) segment
         → word ≡ word_at placed.pool segment at }
     ensures pinned { (history : List PlacedVersion) (notes : Notes) (channel segment at word : ℕ)
         (pin : Pin) (placed : PlacedVersion)
         → Agrees history (note_pinned_word notes channel segment at word)
         → pin_of notes channel ≡ Some pin → placed_at history pin.version ≡ Some placed
-        → PinHolds (place_of placed) pin.root segment
+        → PinHolds (root_and_pool placed) pin.root segment
         → word ≡ word_at placed.pool segment at }
 {}

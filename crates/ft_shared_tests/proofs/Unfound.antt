@@ -7,7 +7,7 @@ use Rattle.ft_segments.specs.Walk.{is_it, walk, uses, sample_walk, sample_uses, 
 use Rattle.ft_shared.specs.declared.law.Sizes.{Sizes}
 use Rattle.ft_shared.specs.declared.law.PlacedVersion.{PlacedVersion}
 use Rattle.ft_shared.specs.declared.law.Account.{Account}
-use Rattle.ft_shared.specs.History.{placed_at, place_of, IsOfVersion}
+use Rattle.ft_shared.specs.History.{placed_at, root_and_pool, IsOfVersion}
 use Rattle.ft_shared.specs.Account.{IsWhole, IsPinAnswer, Found, MayFill, pool_of}
 use Rattle.ft_shared_tests.specs.Author.{IsBarePool, AreRoots, IsUnfound}
 
@@ -83,9 +83,9 @@ pub roots_grow : SongBare → (h new : List PlacedVersion) (p : PlacedVersion) (
     → length roots ≡ p.version → word_at p.pool p.root 1 ≡ 0 → AreRoots h roots → AreRoots new (roots ++ p.root ∷ [])
 roots_grow bare h new p roots is long word known v s of = ⊎_elim
     (λ (e : placed_at (h ++ p ∷ []) v ≡ placed_at h v). get_longer roots (p.root ∷ []) v s
-    (known v s (subst (λ (o : Option PlacedVersion). IsSomeAnd o (λ q. IsOf (place_of q) s)) e of')))
+    (known v s (subst (λ (o : Option PlacedVersion). IsSomeAnd o (λ q. IsOf (root_and_pool q) s)) e of')))
     (λ (e : (p.version ≡ v) × (placed_at (h ++ p ∷ []) v ≡ Some p)).
-    let here : IsOf (place_of p) s = subst (λ (o : Option PlacedVersion). IsSomeAnd o (λ q. IsOf (place_of q) s)) e.1 of' in
+    let here : IsOf (root_and_pool p) s = subst (λ (o : Option PlacedVersion). IsSomeAnd o (λ q. IsOf (root_and_pool q) s)) e.1 of' in
     let u : uses s (walk p.pool p.root) ≡ is_it s p.root = bare p.pool p.root s word in
     let root : p.root ≡ s = is-named p.root s (p.root == s) refl (omega arith) in
     get_last roots v p.root (long ∙ e.0) ∙ ap Some root)

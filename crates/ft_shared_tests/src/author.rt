@@ -134,7 +134,7 @@ fn publish_bare(shared: &Shared, writer: &mut WriterPass, root: u16) -> u32
 }
 
 /// Scans, fills a segment that was not found with the next version's number, publishes it, and
-/// gives its number. `None` comes where no segment was free, or memory was wanting.
+/// gives its number. `None` comes where no segment was free, or memory ran out.
 pub fn publish_next(
     shared: &Shared,
     writer: &mut WriterPass,

@@ -23,7 +23,7 @@ pub fn scan_slots(shared: &Shared, writer: &mut WriterPass, slots: u8) -> ArrayV
     answers
 }
 
-/// Looks at the pins of a reader, and adds the roots of those that stand.
+/// Looks at the pins of a reader, and adds the roots of those that are set.
 fn scan_reader(
     shared: &Shared,
     writer: &mut WriterPass,
@@ -53,7 +53,7 @@ fn scan_reader(
     }
 }
 
-/// Looks at one pin, and adds its root if it stands.
+/// Looks at one pin, and adds its root if it is set.
 fn scan_one(
     shared: &Shared,
     writer: &mut WriterPass,
@@ -84,7 +84,7 @@ fn scan_one(
 }
 
 /// Looks at every slot and then at every pin, and gives what was answered of each slot, and the
-/// roots of the pins that stand.
+/// roots of the pins that are set.
 pub fn scan_all(
     shared: &Shared,
     writer: &mut WriterPass,

@@ -14,7 +14,7 @@ use std::marker::Brand;
 use std::sync::ledger::{Blank, Ledger};
 use std::test::Fail;
 
-/// The version that a note of the current one tells, and what a reader takes that has heard it.
+/// The version that a note of the current one names, and what a reader takes that has heard it.
 fn heard_and_taken<L: Ledger>(
     shared: &Shared,
     writer: &mut WriterPass,
@@ -112,7 +112,8 @@ fn resumed(shared: &Shared, writer: &mut WriterPass, roots: &[u16]) -> ReaderPas
 }
 
 /// Settles two passes, publishes a version, scans while both are settled, and resumes both: the one
-/// that was settled last comes first. Tells whether all was as it should be, and gives the passes.
+/// that was settled last comes first. Answers whether all was as it should be, and gives the
+/// passes.
 fn through(
     shared: &Shared,
     writer: &mut WriterPass,

@@ -10,7 +10,7 @@ pub struct Change<'a> {
     pub from: usize,
     /// The first place behind it that doesn't; where it is `from`, bytes are put in.
     pub to: usize,
-    /// What stands there instead, of any length.
+    /// What is there instead, of any length.
     pub bytes: &'a [u8],
 }
 

@@ -2,12 +2,12 @@
 //!
 //! - `silent_song`, `one_note_song`: whole files. `one_note_with` has other bytes at some places,
 //!   `changed` makes such changes in any bytes.
-//! - `header`, `pattern`, `instrument`, `bare_instrument`: parts of files, to be put one behind the
+//! - `header`, `pattern`, `instrument`, `bare_instrument`: parts of files, to be put one after the
 //!   other.
 //! - `one_note_module`, `silent_module`, `pattern_of`, `sample_of`, `instrument_of`, and the
 //!   constants `EMPTY`, `NOTE`, `FLAT`, `STILL`: modules and their parts.
 //!
-//! The only error is want of memory. No clause says anything: these are values for tests.
+//! The only error is running out of memory. No clause says anything: these are values for tests.
 #![tactic(auto)]
 
 mod change;

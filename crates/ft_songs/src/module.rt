@@ -38,7 +38,7 @@ pub const STILL: Vibrato = Vibrato {
     rate: 0,
 };
 
-/// A pattern of so many rows and two channels, with this first cell and empty ones behind it.
+/// A pattern of that many rows and two channels, with this first cell and empty ones behind it.
 pub fn pattern_of(alloc: Global, rows: u16, first: Cell) -> Result<Pattern, AllocError> {
     let mut cells = vec![in alloc; EMPTY; 2 * usize::from(rows)]?;
     if let Some(cell) = cells.get_mut(0) {

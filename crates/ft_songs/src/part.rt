@@ -14,7 +14,7 @@ pub const INSTRUMENT: &[u8; 22] = b"one instrument........";
 /// The sample name of each sample.
 pub const SAMPLE: &[u8; 22] = b"one sample............";
 
-/// What stands in the header of a song.
+/// What is in the header of a song.
 #[derive(Clone, Copy)]
 pub struct Head<'a> {
     /// The orders; as many as the song is long, at most 255.

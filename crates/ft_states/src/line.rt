@@ -6,7 +6,7 @@ use ft_types::Voice;
 use std::io;
 use std::io::Write;
 
-/// Writes where the tick was, and then the state behind it.
+/// Writes where the tick was, and then the state after it.
 pub fn put_line<W: Write>(out: &mut W, place: Place, song: &SongState) -> io::Result<()> {
     write!(out, "{} {} {}", place.order, place.row, place.tick)?;
     write!(out, " {}", place.frames)?;

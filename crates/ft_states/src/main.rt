@@ -1,8 +1,8 @@
-//! Prints the state of a song behind each of its ticks, to be compared with a slow reading of the
+//! Prints the state of a song after each of its ticks, to be compared with a slow reading of the
 //! rules by tools/checks/states.sh.
 //!
-//! `ft_states SONG RATE TICKS` prints a line for each of so many ticks, at 8,000 to 48,000 frames a
-//! second. The ticks make no sound: voices stay where they are.
+//! `ft_states SONG RATE TICKS` prints a line for each of that many ticks, at 8,000 to 48,000 frames
+//! a second. The ticks make no sound: voices stay where they are.
 #![tactic(auto)]
 
 ghost use Rattle.std.specs.Prelude.{◌≡◌, ◌≤◌, length};

@@ -85,7 +85,7 @@ unfoldable pub frequency16_of : Bool → ℕ → ℕ
 frequency16_of linear period =
     if linear then linear_frequency_of period else amiga_frequency_of period
 
--- an Amiga period so many semitones higher; from an octave on it is halved first
+-- an Amiga period that many semitones higher; from an octave on it is halved first
 unfoldable pub amiga_higher : ℕ → ℕ → ℕ
 amiga_higher semitones period =
     if nat_lt semitones 12 then period * 65536 / slice_index twelfths semitones

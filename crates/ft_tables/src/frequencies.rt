@@ -62,7 +62,7 @@ pub fn frequency16(linear: bool, period: u16) -> u64
     }
 }
 
-/// The power of two of so many twelfths of an octave, 0 to 12, of 65,536.
+/// The power of two of that many twelfths of an octave, 0 to 12, of 65,536.
 fn twelfth(semitones: u8) -> u32
     requires { semitones ≤ 12 }
     ensures value { result ≡ slice_index pitch.twelfths semitones }
@@ -80,7 +80,8 @@ fn divided(period: u16, power: u32) -> u16
     (u32::from(period) * 65536 / power) as u16
 }
 
-/// The Amiga period that is so many semitones higher, 0 to 24; from an octave on it is halved first.
+/// The Amiga period that is that many semitones higher, 0 to 24; from an octave on it is halved
+/// first.
 #[tactic(auto, unfolding(crate::specs::Pitch::amiga_higher))]
 pub fn amiga_higher(semitones: u8, period: u16) -> u16
     requires { semitones ≤ 24 }

@@ -58,7 +58,7 @@ fn amiga_before(note: u8) -> u32
     amiga_note(note - 1)
 }
 
-/// The period at so many of 128 parts of the way from one down to a lower one.
+/// The period at that many of 128 parts of the way from one down to a lower one.
 fn part_down(from: u32, to: u32, parts: u32) -> u32
     requires falls { to ≤ from }
     requires few { from ≤ 28992 }
@@ -70,7 +70,7 @@ fn part_down(from: u32, to: u32, parts: u32) -> u32
     from - (from - to) * parts / 128
 }
 
-/// The period at so many of 128 parts of the way from one up to a higher one.
+/// The period at that many of 128 parts of the way from one up to a higher one.
 fn part_up(from: u32, to: u32, parts: u32) -> u32
     requires rises { from ≤ to }
     requires few { to ≤ 28992 }

@@ -9,7 +9,7 @@ use Rattle.ft_types.specs.declared.edit.Edit.{Edit}
 use Rattle.ft_types.specs.Edits.{IsGivable}
 use Rattle.ft_text.specs.Words.{words_of}
 use Rattle.ft_text.specs.Texts.{spaced, edit_text, batch_text}
-use Rattle.ft_text.specs.Reading.{Place, give, follow, ◌>>=◌, spaces, is_over, or_wrong}
+use Rattle.ft_text.specs.Reading.{LinePlace, give, follow, ◌>>=◌, spaces, is_over, or_wrong}
 use Rattle.ft_text.specs.Edits.{edit_reading}
 use Rattle.ft_text.specs.Lines.{this_word, begins_with_hash, others_reading, edits_reading, time_if, time_reading, timed_reading, value_only, beginning, read_from, line_of}
 use Rattle.ft_text.specs.ReadBack.{HasRanges, IsBatch}
@@ -37,21 +37,21 @@ space = record { ends = refl; short = omega arith; over = λ at. refl }
 
 -- ---- one edit
 
-one_edit_read : (edit : Edit) (rest : List ℕ) (gap : IsGap rest) (p : Place) (end : ℕ) → edit_reading p ≡ Ok (edit, place end rest)
+one_edit_read : (edit : Edit) (rest : List ℕ) (gap : IsGap rest) (p : LinePlace) (end : ℕ) → edit_reading p ≡ Ok (edit, place end rest)
     → edits_reading 0 p ≡ Ok (edit ∷ [], place end rest)
 unfolding edits_reading
 one_edit_read edit rest gap p end read =
-    let next : Result (Edit × Place) ℕ → Result (List Edit × Place) ℕ = follow (λ e. others_reading 0 >>= (λ es. give (e ∷ es))) in
-    let behind : Result (List Edit × Place) ℕ → Result (List Edit × Place) ℕ = follow (λ es. give (edit ∷ es)) in
+    let next : Result (Edit × LinePlace) ℕ → Result (List Edit × LinePlace) ℕ = follow (λ e. others_reading 0 >>= (λ es. give (e ∷ es))) in
+    let behind : Result (List Edit × LinePlace) ℕ → Result (List Edit × LinePlace) ℕ = follow (λ es. give (edit ∷ es)) in
     ap next read ∙ ap behind (gap.over end)
 
-timed_read : (edits : List Edit) (p q : Place) → time_reading p ≡ Ok (None, p)
+timed_read : (edits : List Edit) (p q : LinePlace) → time_reading p ≡ Ok (None, p)
     → edits_reading 0 p ≡ Ok (edits, q) → value_only (timed_reading 0 p) ≡ Ok (Some (None, edits))
 unfolding timed_reading
 timed_read edits p q time read =
-    let behind : Result (Option ℕ × Place) ℕ → Result (Option (Option ℕ × List Edit)) ℕ =
+    let behind : Result (Option ℕ × LinePlace) ℕ → Result (Option (Option ℕ × List Edit)) ℕ =
     λ r. value_only (follow (λ time. edits_reading 0 >>= (λ es. give (time, es))) r) in
-    let last : Result (List Edit × Place) ℕ → Result (Option (Option ℕ × List Edit)) ℕ =
+    let last : Result (List Edit × LinePlace) ℕ → Result (Option (Option ℕ × List Edit)) ℕ =
     λ r. value_only (follow (λ es. give (None, es)) r) in
     ap behind time ∙ ap last read
 
@@ -94,7 +94,7 @@ begins_behind_space : (name rest : List ℕ) → BeginsLine name → length (nam
 unfolding beginning
 begins_behind_space name rest begins short =
     let line = 32 ∷ (name ++ rest) in
-    let start : Result (Option Place) ℕ = Ok (Some (place 0 line)) in
+    let start : Result (Option LinePlace) ℕ = Ok (Some (place 0 line)) in
     cond-false (nat_lt 4096 (length line)) (Err 4096) (cond (begins_with_hash line || is_over (place 0 line)) (Ok None) start)
     (le-ltb 4096 (length line) (omega arith))
     ∙ cond-false (begins_with_hash line || is_over (place 0 line)) (Ok None) start

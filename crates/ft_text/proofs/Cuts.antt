@@ -6,7 +6,7 @@ use Rattle.std.proofs.lemmas.Bool.{ne_eqb, cases_Bool}
 use Rattle.std.proofs.lemmas.List.{take_rest, drop-drop}
 use Rattle.std.proofs.lemmas.List.Sums.{fails_before_first}
 use Rattle.std.proofs.lemmas.List.Splits.{slice_split_none, slice_split_first, length-slice_split, slice_split-cons_yes, slice_split-cons_no, join_with_byte-slice_split}
-use Rattle.ft_text.specs.LedgerAnswers.{parts_of}
+use Rattle.ft_text.specs.LedgerAnswers.{parts_left}
 use Rattle.ft_text.specs.LedgerReading.{is_end}
 
 -- where none is like this, they are one part
@@ -31,7 +31,7 @@ pub some_part : (by : ℕ) (bytes : List ℕ) → (length (slice_split (λ b. b 
 some_part by bytes = ne_eqb _ 0 (λ none. omega (arith, length-slice_split (λ b. b == by) bytes, none))
 
 -- no word is left where nothing is
-pub none_left : (left : Option (Bor (List ℕ))) (words : List (List ℕ)) (over : Bool) → parts_of 32 (option_copied left) ≡ words
+pub none_left : (left : Option (Bor (List ℕ))) (words : List (List ℕ)) (over : Bool) → parts_left 32 (option_copied left) ≡ words
     → is_some left ≡ not over → over ≡ (length words == 0)
 none_left None words true seen e = ap (λ w. length w == 0) seen
 none_left None words false seen e = cc
@@ -39,10 +39,10 @@ none_left (Some line) words true seen e = cc
 none_left (Some line) words false seen e = sym (some_part 32 line.now) ∙ ap (λ w. length w == 0) seen
 
 -- the words that are left, with a space between two
-pub all_left : (left : Option (Bor (List ℕ))) (line : Bor (List ℕ)) (words : List (List ℕ)) → parts_of 32 (option_copied left) ≡ words
+pub all_left : (left : Option (Bor (List ℕ))) (line : Bor (List ℕ)) (words : List (List ℕ)) → parts_left 32 (option_copied left) ≡ words
     → left ≡ Some line → line.now ≡ join_with_byte 32 words
 all_left left line words seen e =
-    sym (join_with_byte-slice_split 32 line.now) ∙ ap (λ l. join_with_byte 32 (parts_of 32 (option_copied l))) (sym e)
+    sym (join_with_byte-slice_split 32 line.now) ∙ ap (λ l. join_with_byte 32 (parts_left 32 (option_copied l))) (sym e)
     ∙ ap (join_with_byte 32) seen
 
 pub no_part : (by : ℕ) (bytes : List ℕ) → slice_split (λ b. b == by) bytes ≡ [] → ⊥

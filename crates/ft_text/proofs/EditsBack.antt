@@ -7,7 +7,7 @@ use Rattle.ft_types.specs.declared.edit.Edit.TheVariants as edits
 use Rattle.ft_types.specs.Edits.{IsGivable}
 use Rattle.ft_text.specs.Words.{words_of}
 use Rattle.ft_text.specs.Reading.{Reading}
-use Rattle.ft_text.specs.Edits.{named, readings, u8, u16, u32, i8, i16, name_20, name_22, wide_frames, cell_reading, rows_reading, insrow_reading, delrow_reading, clear_reading, transpose_reading, copy_reading, order_reading, insorder_reading, delorder_reading, restart_reading, tempo_reading, bpm_reading, title_reading, newpat_reading, delpat_reading, newins_reading, clearins_reading, insname_reading, map_reading, env_reading, point_reading, vib_reading, fade_reading, newsmp_reading, delsmp_reading, smpname_reading, smp_reading, loop_reading, cut_reading, paste_reading, reverse_reading, scale_reading, bits_reading}
+use Rattle.ft_text.specs.Edits.{named, readings, u8, u16, u32, i8, i16, name_20, name_22, frames_argument, cell_reading, rows_reading, insrow_reading, delrow_reading, clear_reading, transpose_reading, copy_reading, order_reading, insorder_reading, delorder_reading, restart_reading, tempo_reading, bpm_reading, title_reading, newpat_reading, delpat_reading, newins_reading, clearins_reading, insname_reading, map_reading, env_reading, point_reading, vib_reading, fade_reading, newsmp_reading, delsmp_reading, smpname_reading, smp_reading, loop_reading, cut_reading, paste_reading, reverse_reading, scale_reading, bits_reading}
 use Rattle.ft_text.specs.Lines.{begins_with_hash}
 use Rattle.ft_text.specs.ReadBack.{HasRanges}
 use Rattle.ft_text.proofs.WordsBack.{is_solid, TakesWords, nothing_taken, both_taken}
@@ -222,7 +222,7 @@ paste_written : (i s at : ℕ) (frames : List ℤ) → HasRanges (edits.Paste i 
 unfolding readings paste_reading
 paste_written i s at frames range givable = written (codes "paste") paste_reading 1044 refl refl refl (lit≤ tt)
     (both_taken u8 _ (u8_taken i range.0) (both_taken u8 _ (u8_taken s range.1) (both_taken u32 _ (u32_taken at range.2) (
-    both_taken wide_frames _ (frames_taken frames givable.0 givable.1 range.3) (nothing_taken (edits.Paste i s at frames))))))
+    both_taken frames_argument _ (frames_taken frames givable.0 givable.1 range.3) (nothing_taken (edits.Paste i s at frames))))))
 
 reverse_written : (i s from to : ℕ) → HasRanges (edits.Reverse i s from to) → IsWritten (edits.Reverse i s from to)
 unfolding readings reverse_reading

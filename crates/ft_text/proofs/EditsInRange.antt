@@ -9,17 +9,17 @@ use Rattle.ft_types.specs.declared.edit.Edit.{Edit}
 use Rattle.ft_types.specs.declared.edit.Edit.TheVariants as edits
 use Rattle.ft_types.specs.Edits.{IsGivable}
 use Rattle.ft_text.specs.Values.{number_of, signed_of, name_of, frames_of}
-use Rattle.ft_text.specs.Reading.{Place, Reading, give, follow, ◌>>=◌, or_wrong, next_word, word, is_over, behind_spaces}
-use Rattle.ft_text.specs.Edits.{u8, u16, u32, i8, i16, name_20, name_22, wide_frames, cell_reading, rows_reading, insrow_reading, delrow_reading, clear_reading, transpose_reading, copy_reading, order_reading, insorder_reading, delorder_reading, restart_reading, tempo_reading, bpm_reading, title_reading, newpat_reading, delpat_reading, newins_reading, clearins_reading, insname_reading, map_reading, env_reading, point_reading, vib_reading, fade_reading, newsmp_reading, delsmp_reading, smpname_reading, smp_reading, loop_reading, cut_reading, paste_reading, reverse_reading, scale_reading, bits_reading, readings, named, edit_reading}
+use Rattle.ft_text.specs.Reading.{LinePlace, Reading, give, follow, ◌>>=◌, or_wrong, next_word, word, is_over, behind_spaces}
+use Rattle.ft_text.specs.Edits.{u8, u16, u32, i8, i16, name_20, name_22, frames_argument, cell_reading, rows_reading, insrow_reading, delrow_reading, clear_reading, transpose_reading, copy_reading, order_reading, insorder_reading, delorder_reading, restart_reading, tempo_reading, bpm_reading, title_reading, newpat_reading, delpat_reading, newins_reading, clearins_reading, insname_reading, map_reading, env_reading, point_reading, vib_reading, fade_reading, newsmp_reading, delsmp_reading, smpname_reading, smp_reading, loop_reading, cut_reading, paste_reading, reverse_reading, scale_reading, bits_reading, readings, named, edit_reading}
 use Rattle.ft_text.specs.Lines.{this_word, another_reading, others_reading, edits_reading, time_if, time_reading, timed_reading, value_only, beginning, read_from, line_of}
 use Rattle.ft_text.specs.ReadBack.{HasRanges, IsName}
-use Rattle.ft_text.specs.ReadRanges.{IsInRange}
+use Rattle.ft_text.specs.ReadRanges.{IsLineInRange}
 use Rattle.ft_text.proofs.WordsExact.{number_within}
 use Rattle.ft_text.proofs.ValuesInRange.{signed_8, signed_16, name_is, frames_are}
 
 -- what a reading gives is so, wherever it reads
 pub record Gives {A : Type 0} (P : A → Type 0) (reading : Reading A) : Type 0 where
-  pub each : (p q : Place) (x : A) → reading p ≡ Ok (x, q) → P x
+  pub each : (p q : LinePlace) (x : A) → reading p ≡ Ok (x, q) → P x
 
 same_value : {A B : Type 0} (x y : A) (p q : B) → ◌≡◌ {A = Result (A × B) ℕ} (Ok (x, p)) (Ok (y, q)) → x ≡ y
 same_value {A} {B} x y p q h =
@@ -32,7 +32,7 @@ gives_it P x is = record { each = λ p q y h. subst P (same_value x y p q h) is 
 then : {A B : Type 0} (P : A → Type 0) (Q : B → Type 0) (first : Reading A) (next : A → Reading B) → Gives P first
     → ((x : A) → P x → Gives Q (next x)) → Gives Q (first >>= next)
 then {A} {B} P Q first next f n = record { each = λ p q y h. go p q y (first p) refl h } where
-  go : (p q : Place) (y : B) (r : Result (A × Place) ℕ) → first p ≡ r → follow next r ≡ Ok (y, q) → Q y
+  go : (p q : LinePlace) (y : B) (r : Result (A × LinePlace) ℕ) → first p ≡ r → follow next r ≡ Ok (y, q) → Q y
   go p q y (Ok read) e h = (n read.0 (f.each p read.1 read.0 e)).each read.1 q y h
   go p q y (Err at) e h = absurd (cc)
 
@@ -88,9 +88,9 @@ abbrev AreFrames : List ℤ → Type 0
 AreFrames frames = (1 ≤ length frames) × (length frames ≤ 256) × All (FitsSigned w16) frames
 
 frames_then : {Q : Edit → Type 0} {next : List ℤ → Reading Edit} → ((frames : List ℤ) → AreFrames frames → Gives Q (next frames))
-    → Gives Q (wide_frames >>= next)
-unfolding wide_frames
-frames_then {Q} {next} each = then AreFrames Q wide_frames next (word_gives AreFrames frames_of frames_are) each
+    → Gives Q (frames_argument >>= next)
+unfolding frames_argument
+frames_then {Q} {next} each = then AreFrames Q frames_argument next (word_gives AreFrames frames_of frames_are) each
 
 -- ---- edits
 
@@ -311,10 +311,10 @@ another_gives = then (λ _. Unit {0}) Good (word (this_word (codes ";"))) (λ _.
 none_give : Gives (AreGood 0 0) (others_reading 0)
 unfolding others_reading
 none_give = record { each = each } where
-  each : (p q : Place) (edits : List Edit) → others_reading 0 p ≡ Ok (edits, q) → AreGood 0 0 edits
+  each : (p q : LinePlace) (edits : List Edit) → others_reading 0 p ≡ Ok (edits, q) → AreGood 0 0 edits
   each p q edits h =
-      let none : Result (List Edit × Place) ℕ = Ok ([], p) in
-      let wrong : Result (List Edit × Place) ℕ = Err (behind_spaces p).at in
+      let none : Result (List Edit × LinePlace) ℕ = Ok ([], p) in
+      let wrong : Result (List Edit × LinePlace) ℕ = Err (behind_spaces p).at in
       elim (cases_Bool (is_over p)) [
         | inl so ↦ subst (AreGood 0 0) (same_value [] edits p q (sym (cond-true (is_over p) none wrong so) ∙ h)) (no_edits 0)
         | inr left ↦ absurd (cc (cond-false (is_over p) none wrong left, h))
@@ -331,7 +331,7 @@ further_gives most others give_good = then Good (AreGood 1 (suc most)) another_r
 more_give : (more : ℕ) → Gives (AreGood 0 more) (others_reading more) → Gives (AreGood 0 (suc more)) (others_reading (suc more))
 unfolding others_reading
 more_give more give_good = record { each = each } where
-  each : (p q : Place) (edits : List Edit) → others_reading (suc more) p ≡ Ok (edits, q) → AreGood 0 (suc more) edits
+  each : (p q : LinePlace) (edits : List Edit) → others_reading (suc more) p ≡ Ok (edits, q) → AreGood 0 (suc more) edits
   each p q edits h = elim (cases_Bool (is_over p)) [
     | inl so ↦ subst (AreGood 0 (suc more))
         (same_value [] edits p q (sym (cond-true (is_over p) (Ok ([], p)) (further (others_reading more) p) so) ∙ h)) (no_edits (suc more))
@@ -361,7 +361,7 @@ time_gives = record { each = λ p q time h. go p q time (word (this_word (codes 
   some_time : Gives IsTime (u32 >>= (λ t. give (Some t)))
   some_time = then (λ n. n < 2 ^ 32) IsTime u32 (λ t. give (Some t)) u32_gives (λ t small. gives_it IsTime (Some t) small)
 
-  go : (p q : Place) (time : Option ℕ) (r : Result (List ℕ × Place) ℕ) → time_if p r ≡ Ok (time, q) → IsTime time
+  go : (p q : LinePlace) (time : Option ℕ) (r : Result (List ℕ × LinePlace) ℕ) → time_if p r ≡ Ok (time, q) → IsTime time
   go p q time (Ok read) h = some_time.each read.1 q time h
   go p q time (Err at) h = subst IsTime (same_value None time p q h) tt
 
@@ -375,15 +375,15 @@ timed_gives more = then IsTime (IsTimed (suc more)) time_reading (λ time. edits
     (edits_give more)
     (λ edits are. gives_it (IsTimed (suc more)) (time, edits) (is, are)))
 
-value_is : (r : Result ((Option ℕ × List Edit) × Place) ℕ) (x : Option ℕ × List Edit) → value_only r ≡ Ok (Some x)
-    → (q : Place) × (r ≡ Ok (x, q))
+value_is : (r : Result ((Option ℕ × List Edit) × LinePlace) ℕ) (x : Option ℕ × List Edit) → value_only r ≡ Ok (Some x)
+    → (q : LinePlace) × (r ≡ Ok (x, q))
 value_is (Ok read) x h = let same : read.0 ≡ x = cc in (read.1, ap (λ y. Ok (y, read.1)) same)
 value_is (Err at) x h = absurd (cc)
 
 pub lines_are_in_range : (more : ℕ) (line : List ℕ) (time : Option ℕ) (edits : List Edit)
-    → line_of more line ≡ Ok (Some (time, edits)) → IsInRange (more + 1) time edits
+    → line_of more line ≡ Ok (Some (time, edits)) → IsLineInRange (more + 1) time edits
 lines_are_in_range more line time edits h = go (beginning line) h where
-  go : (r : Result (Option Place) ℕ) → read_from more r ≡ Ok (Some (time, edits)) → IsInRange (more + 1) time edits
+  go : (r : Result (Option LinePlace) ℕ) → read_from more r ≡ Ok (Some (time, edits)) → IsLineInRange (more + 1) time edits
   go (Ok None) k = absurd (cc)
   go (Err at) k = absurd (cc)
   go (Ok (Some p)) k =

@@ -2,14 +2,14 @@
 use Rattle.std.proofs.Common.{◌≡◌, ℕ, ◌+◌, ◌-◌, ◌*◌, ◌≤◌, List, [], ◌∷◌, ◌++◌, length, get_or, take, drop, Option, Some, None, ℤ, refl, ap, ◌∙◌, append_assoc, arith}
 use Rattle.std.specs.Int.{w16, cast_signed}
 use Rattle.std.proofs.lemmas.List.{take_rest}
-use Rattle.ft_text.specs.Values.{before, doubles}
+use Rattle.ft_text.specs.Values.{frame_before, doubles}
 
 -- frames in front of others, where there are any
 abbrev pub in_front : List ℤ → Option (List ℤ) → Option (List ℤ)
 in_front front None = None
 in_front front (Some frames) = Some (front ++ frames)
 
-moved : (front : List ℤ) (x : ℤ) (o : Option (List ℤ)) → in_front (front ++ x ∷ []) o ≡ in_front front (before x o)
+moved : (front : List ℤ) (x : ℤ) (o : Option (List ℤ)) → in_front (front ++ x ∷ []) o ≡ in_front front (frame_before x o)
 moved front x None = refl
 moved front x (Some frames) = ap Some (append_assoc front (x ∷ []) frames)
 
@@ -21,4 +21,4 @@ next_frame front [] x whole long is so_far = absurd (omega arith)
 next_frame front (a ∷ []) x whole long is so_far = absurd (omega arith)
 next_frame front (high ∷ low ∷ rest) x whole long is so_far =
     ap (λ r. in_front (front ++ x ∷ []) (doubles r)) (take_rest (high ∷ low ∷ rest) 2)
-    ∙ (moved front x (doubles rest) ∙ (ap (λ y. in_front front (before y (doubles rest))) is ∙ so_far))
+    ∙ (moved front x (doubles rest) ∙ (ap (λ y. in_front front (frame_before y (doubles rest))) is ∙ so_far))

@@ -11,7 +11,7 @@ use Rattle.ft_text.specs.declared.record.HandEnd.{HandEnd}
 use Rattle.ft_text.specs.declared.record.SavedLine.{SavedLine}
 use Rattle.ft_text.specs.Words.{numbers, words_of}
 use Rattle.ft_text.specs.Texts.{text_of_words, edit_text, batch_text}
-use Rattle.ft_text.specs.Record.{Account, HasCause}
+use Rattle.ft_text.specs.Record.{LedgerAccount, HasHandCause}
 use Rattle.ft_text.specs.Ledger.{head_line, play_line, entry_line, refusal_line, tick_line, tick_lines, hand_line, hand_cause, saved_line, saved_lines, end_line, cause_words, ledger_lines, ledger_text}
 use Rattle.ft_text.proofs.PlainBytes.{plain, all_plain, plain_decimal, plain_numbers, plain_words, words_append}
 use Rattle.ft_text.proofs.SplitsBack.{split, split_lines, avoids, avoids_append, text_avoids, no_lf}
@@ -49,7 +49,7 @@ refusal_lf form f =
     avoids_append 10 (text_of_words ws) (32 ∷ batch_text f.batch)
     (words_lf ws (words_append ns cw (plain_numbers (f.hand ∷ f.seq ∷ [])) (plain_cause form f.cause))) (batch_lf f.batch)
 
-hand_lf : (h : HandEnd) → HasCause h → avoids 10 (hand_line h) ≡ true
+hand_lf : (h : HandEnd) → HasHandCause h → avoids 10 (hand_line h) ≡ true
 hand_lf h c = words_lf (codes "h" ∷ decimal h.hand ∷ hand_cause h.cause ∷ decimal h.at ∷ [])
     (and_from (plain (decimal h.hand)) _ (plain_decimal h.hand)
     (and_from (plain (hand_cause h.cause)) _ (cause_name h.cause c.0 c.1).1
@@ -81,10 +81,10 @@ ticks_clean n (t ∷ ts) =
     and_from (avoids 10 (tick_line n t)) (clean (tick_lines (suc n) ts)) (words_lf (codes "t" ∷ numbers ns) (plain_numbers ns))
     (ticks_clean (suc n) ts)
 
-hands_clean : (hs : List HandEnd) → All HasCause hs → clean (map hand_line hs) ≡ true
+hands_clean : (hs : List HandEnd) → All HasHandCause hs → clean (map hand_line hs) ≡ true
 hands_clean [] all = refl
-hands_clean (h ∷ hs) all = and_from (avoids 10 (hand_line h)) (clean (map hand_line hs)) (hand_lf h (All-head HasCause h hs all))
-    (hands_clean hs (All-tail HasCause h hs all))
+hands_clean (h ∷ hs) all = and_from (avoids 10 (hand_line h)) (clean (map hand_line hs)) (hand_lf h (All-head HasHandCause h hs all))
+    (hands_clean hs (All-tail HasHandCause h hs all))
 
 saved_clean : (s : Option SavedLine) → clean (saved_lines s) ≡ true
 saved_clean None = refl
@@ -98,7 +98,7 @@ first_clean : (form : ℕ) (line : List ℕ) → avoids 10 line ≡ true → cle
 first_clean form line none =
     and_from (avoids 10 (head_line form)) (clean (line ∷ [])) (head_clean form) (and_from (avoids 10 line) true none refl)
 
-lines_clean : (form : ℕ) (a : Account) → All HasCause a.hands → clean (ledger_lines form a) ≡ true
+lines_clean : (form : ℕ) (a : LedgerAccount) → All HasHandCause a.hands → clean (ledger_lines form a) ≡ true
 unfolding ledger_lines
 lines_clean form a causes =
     let run = a.run in
@@ -124,7 +124,7 @@ regroup : (a b c d e f g t : List (List ℕ)) → a ++ b ++ c ++ d ++ e ++ f ++ 
 regroup a b c d e f g t = simp append_assoc
 
 -- the parts of a ledger
-pub parts_are : (form : ℕ) (a : Account) → All HasCause a.hands → split 10 (ledger_text form a)
+pub parts_are : (form : ℕ) (a : LedgerAccount) → All HasHandCause a.hands → split 10 (ledger_text form a)
     ≡ head_line form ∷ play_line a.run ∷ (map entry_line a.entries ++ (map (refusal_line form) a.refusals ++ (tick_lines 0 a.ticks
     ++ (map hand_line a.hands ++ (saved_lines a.saved ++ (end_line a.run.status (length a.ticks) ∷ [] ∷ []))))))
 unfolding ledger_text ledger_lines

@@ -24,7 +24,7 @@ use Rattle.ft_text.specs.Words.{numbers}
 use Rattle.ft_text.specs.Texts.{text_of_words, batch_text}
 use Rattle.ft_text.specs.Edits.{named}
 use Rattle.ft_text.specs.Lines.{this_word}
-use Rattle.ft_text.specs.Record.{IsTold, HasCause}
+use Rattle.ft_text.specs.Record.{IsEndStatus, HasHandCause}
 use Rattle.ft_text.specs.Ledger.{head_line, play_line, entry_line, refusal_line, tick_line, hand_line, hand_cause, saved_line, end_line, fault_words, place_words, cause_words}
 use Rattle.ft_text.specs.LedgerWords.{Taking, word, if_over, said, head, play, only_if, is_told, status_of, hand_from, hand_causes, entry, batch, batch_of, fault, cause, refusal, tick, hand, saved, end, with_rest, saved_name, place, edit_cause, most_edits}
 use Rattle.ft_text.specs.LedgerBack.{RunHasRanges, EntryHasRanges, FaultHasRanges, CauseHasRanges, RefusalHasRanges, TickHasRanges, HandHasRanges, SavedHasRanges}
@@ -66,7 +66,7 @@ tick_back n t r = said_is (tick n) (codes "t") (numbers (n ∷ t.version ∷ t.o
     (plain_numbers (n ∷ t.version ∷ t.order ∷ t.row ∷ t.tick ∷ t.frames ∷ []))
     (rw (this_back (decimal n), n32 t.version r.0, n16 t.order r.1, n16 t.row r.2, n16 t.tick r.3, n32 t.frames r.4) refl)
 
--- a saved song can be told in this form
+-- a saved song can be written in this form
 abbrev pub TellsSaved : ℕ → Type 0
 TellsSaved form = saved_name form (codes "s") ≡ Some (codes "s")
 
@@ -84,36 +84,36 @@ pub old_head_back : said head (head_line 1) ≡ Some 1
 unfolding word digits
 old_head_back = refl
 
--- a status can be told in this form
+-- a status can be written in this form
 abbrev pub TellsStatus : ℕ → ℕ → Type 0
 TellsStatus form status = is_told form status ≡ true
 
-pub told_test : (status : ℕ) → IsTold status → TellsStatus 2 status
+pub told_test : (status : ℕ) → IsEndStatus status → TellsStatus 2 status
 told_test status (inl e) = ap (is_told 2) e
 told_test status (inr (inl e)) = ap (is_told 2) e
 told_test status (inr (inr (inl e))) = ap (is_told 2) e
 told_test status (inr (inr (inr (inl e)))) = ap (is_told 2) e
 told_test status (inr (inr (inr (inr e)))) = ap (is_told 2) e
 
-pub old_told_test : (status : ℕ) → IsTold status → status ≢ 10 → TellsStatus 1 status
+pub old_told_test : (status : ℕ) → IsEndStatus status → status ≢ 10 → TellsStatus 1 status
 old_told_test status (inl e) other = ap (is_told 1) e
 old_told_test status (inr (inl e)) other = ap (is_told 1) e
 old_told_test status (inr (inr (inl e))) other = ap (is_told 1) e
 old_told_test status (inr (inr (inr (inl e)))) other = ap (is_told 1) e
 old_told_test status (inr (inr (inr (inr e)))) other = absurd (other e)
 
-told_small : (status : ℕ) → IsTold status → status < 2 ^ 8
+told_small : (status : ℕ) → IsEndStatus status → status < 2 ^ 8
 told_small status (inl e) = omega arith
 told_small status (inr (inl e)) = omega arith
 told_small status (inr (inr (inl e))) = omega arith
 told_small status (inr (inr (inr (inl e)))) = omega arith
 told_small status (inr (inr (inr (inr e)))) = omega arith
 
-status_back : (form status : ℕ) → IsTold status → TellsStatus form status → status_of form (decimal status) ≡ Some status
+status_back : (form status : ℕ) → IsEndStatus status → TellsStatus form status → status_of form (decimal status) ≡ Some status
 status_back form status told tells =
     ap (only_if (is_told form)) (n8 status (told_small status told)) ∙ cond-true (is_told form status) (Some status) None tells
 
-pub end_back : (form status ticks : ℕ) → IsTold status → TellsStatus form status
+pub end_back : (form status ticks : ℕ) → IsEndStatus status → TellsStatus form status
     → said (end form ticks) (end_line status ticks) ≡ Some status
 unfolding word
 end_back form status ticks told tells = said_is (end form ticks) (codes "end") (numbers (status ∷ ticks ∷ [])) status refl
@@ -134,7 +134,7 @@ number_from : (least n : ℕ) → least ≤ n → n < 2 ^ 8 → hand_from least 
 number_from least n low small =
     ap (only_if (λ hand. nat_le least hand)) (n8 n small) ∙ cond-true (nat_le least n) (Some n) None (le-leb least n low)
 
-pub hand_back : (least : ℕ) (h : HandEnd) → HandHasRanges h → HasCause h → least ≤ h.hand → said (hand least) (hand_line h) ≡ Some h
+pub hand_back : (least : ℕ) (h : HandEnd) → HandHasRanges h → HasHandCause h → least ≤ h.hand → said (hand least) (hand_line h) ≡ Some h
 unfolding word
 hand_back least h r c low =
     let name = cause_name h.cause c.0 c.1 in
@@ -171,7 +171,7 @@ fault_back (causes.TooMany what count) rest r = rw (n8 7 (omega arith), n8 what 
 fault_back (causes.NoSample i s) rest r = rw (n8 8 (omega arith), n8 i r.0, n8 s r.1) refl
 fault_back (causes.Cut from to frames) rest r = rw (n8 9 (omega arith), n32 from r.0, n64 to r.1, n32 frames r.2) refl
 
--- the place of an edit can be told in this form
+-- the place of an edit can be written in this form
 abbrev pub TellsPlace : ℕ → CommitFault → Type 0
 TellsPlace form (faults.Edit at f) = (rest : List (List ℕ)) → place form (place_words form at ++ rest) ≡ Some (at, rest)
 TellsPlace form (faults.Worn version) = Unit {0}

@@ -1,4 +1,4 @@
--- What a line of a ledger says is in the ranges of the types, and can be told.
+-- What a line of a ledger says is in the ranges of the types, and can be written.
 use Rattle.std.proofs.Common.{◌≡◌, ◌≢◌, ℕ, suc, ◌^◌, ◌<◌, ◌≤◌, ◌==◌, Bool, true, false, ◌&&◌, inl, inr, List, [], ◌∷◌, length, nat_le, codes, cond, Option, Some, None, Result, Ok, Err, refl, sym, ap, subst, ◌∙◌, arith, decimal}
 use Rattle.std.specs.Prelude.{FitsSigned, bytes_eq}
 use Rattle.std.specs.Int.{w64}
@@ -21,10 +21,10 @@ use Rattle.ft_text.specs.Values.{number_of, signed_of}
 use Rattle.ft_text.specs.Texts.{batch_text}
 use Rattle.ft_text.specs.Edits.{named}
 use Rattle.ft_text.specs.Lines.{this_word, line_of}
-use Rattle.ft_text.specs.Record.{IsTold, HasCause}
+use Rattle.ft_text.specs.Record.{IsEndStatus, HasHandCause}
 use Rattle.ft_text.specs.ReadBack.{HasRanges, IsBatch}
 use Rattle.ft_text.specs.LedgerBack.{RunHasRanges, EntryHasRanges, FaultHasRanges, CauseHasRanges, RefusalHasRanges, TickHasRanges, HandHasRanges, SavedHasRanges, IsFirst}
-use Rattle.ft_text.specs.LedgerWords.{Taking, give, follow, ◌>>=◌, with_rest, word, u8, u16, u32, u64, said, one_edit, then_others, each_edit, if_text, batch_of, most_edits, batch, play, entry, no_pattern, no_row, no_channel, no_order, no_instrument, range, too_many, no_sample, cut, wrong, fault_by, fault, place, edit_cause, worn_cause, full_cause, cause_readings, cause, refusal, tick, hand_from, hand_causes, hand, saved_name, saved, is_told, status_of, end}
+use Rattle.ft_text.specs.LedgerWords.{Taking, give, follow, ◌>>=◌, with_rest, word, u8_word, u16_word, u32_word, u64_word, said, one_edit, then_others, each_edit, if_text, batch_of, most_edits, batch, play, entry, no_pattern, no_row, no_channel, no_order, no_instrument, range, too_many, no_sample, cut, wrong, fault_by, fault, place, edit_cause, worn_cause, full_cause, cause_readings, cause, refusal, tick, hand_from, hand_causes, hand, saved_name, saved, is_told, status_of, end}
 use Rattle.ft_text.proofs.Cuts.{some_part}
 use Rattle.ft_text.proofs.SplitsBack.{split}
 use Rattle.ft_text.proofs.WordsExact.{number_within, passed, pair_is, with_rest_is}
@@ -73,29 +73,29 @@ either_gives P false a b left right = right
 number_gives : (most limit : ℕ) → most < limit → Gives (λ n. n < limit) (word (number_of most))
 number_gives most limit within = word_gives (λ n. n < limit) (number_of most) (λ w n h. omega (arith, within, number_within most n w h))
 
-u8_gives : Gives (λ n. n < 2 ^ 8) u8
+u8_gives : Gives (λ n. n < 2 ^ 8) u8_word
 u8_gives = number_gives 255 (2 ^ 8) (omega arith)
 
-u16_gives : Gives (λ n. n < 2 ^ 16) u16
+u16_gives : Gives (λ n. n < 2 ^ 16) u16_word
 u16_gives = number_gives 65535 (2 ^ 16) (omega arith)
 
-u32_gives : Gives (λ n. n < 2 ^ 32) u32
+u32_gives : Gives (λ n. n < 2 ^ 32) u32_word
 u32_gives = number_gives 4294967295 (2 ^ 32) (omega arith)
 
-u64_gives : Gives (λ n. n < 2 ^ 64) u64
+u64_gives : Gives (λ n. n < 2 ^ 64) u64_word
 u64_gives = number_gives 18446744073709551615 (2 ^ 64) (omega arith)
 
-u8_then : {B : Type 0} {Q : B → Type 0} {next : ℕ → Taking B} → ((n : ℕ) → n < 2 ^ 8 → Gives Q (next n)) → Gives Q (u8 >>= next)
-u8_then {B} {Q} {next} each = then (λ n. n < 2 ^ 8) Q u8 next u8_gives each
+u8_then : {B : Type 0} {Q : B → Type 0} {next : ℕ → Taking B} → ((n : ℕ) → n < 2 ^ 8 → Gives Q (next n)) → Gives Q (u8_word >>= next)
+u8_then {B} {Q} {next} each = then (λ n. n < 2 ^ 8) Q u8_word next u8_gives each
 
-u16_then : {B : Type 0} {Q : B → Type 0} {next : ℕ → Taking B} → ((n : ℕ) → n < 2 ^ 16 → Gives Q (next n)) → Gives Q (u16 >>= next)
-u16_then {B} {Q} {next} each = then (λ n. n < 2 ^ 16) Q u16 next u16_gives each
+u16_then : {B : Type 0} {Q : B → Type 0} {next : ℕ → Taking B} → ((n : ℕ) → n < 2 ^ 16 → Gives Q (next n)) → Gives Q (u16_word >>= next)
+u16_then {B} {Q} {next} each = then (λ n. n < 2 ^ 16) Q u16_word next u16_gives each
 
-u32_then : {B : Type 0} {Q : B → Type 0} {next : ℕ → Taking B} → ((n : ℕ) → n < 2 ^ 32 → Gives Q (next n)) → Gives Q (u32 >>= next)
-u32_then {B} {Q} {next} each = then (λ n. n < 2 ^ 32) Q u32 next u32_gives each
+u32_then : {B : Type 0} {Q : B → Type 0} {next : ℕ → Taking B} → ((n : ℕ) → n < 2 ^ 32 → Gives Q (next n)) → Gives Q (u32_word >>= next)
+u32_then {B} {Q} {next} each = then (λ n. n < 2 ^ 32) Q u32_word next u32_gives each
 
-u64_then : {B : Type 0} {Q : B → Type 0} {next : ℕ → Taking B} → ((n : ℕ) → n < 2 ^ 64 → Gives Q (next n)) → Gives Q (u64 >>= next)
-u64_then {B} {Q} {next} each = then (λ n. n < 2 ^ 64) Q u64 next u64_gives each
+u64_then : {B : Type 0} {Q : B → Type 0} {next : ℕ → Taking B} → ((n : ℕ) → n < 2 ^ 64 → Gives Q (next n)) → Gives Q (u64_word >>= next)
+u64_then {B} {Q} {next} each = then (λ n. n < 2 ^ 64) Q u64_word next u64_gives each
 
 word_then : {A B : Type 0} {Q : B → Type 0} {next : A → Taking B} (value : List ℕ → Option A) → ((x : A) → Gives Q (next x))
     → Gives Q (word value >>= next)
@@ -245,7 +245,7 @@ fault_gives : Gives FaultHasRanges fault
 unfolding fault
 fault_gives = u8_then (λ n n'. fault_by_gives n)
 
--- ranges, no want of memory, and the first edit in form 1
+-- ranges, no running out of memory, and the first edit in form 1
 pub record IsCause (form : ℕ) (c : CommitFault) : Type 0 where
   pub ranges : CauseHasRanges c
   pub told : c ≢ faults.NoMemory
@@ -256,11 +256,11 @@ IsPlace form at = (at < 2 ^ 8) × (form ≡ 1 → at ≡ 0)
 
 place_gives : (form : ℕ) → Gives (IsPlace form) (place form)
 place_gives form = elim (cases_Bool (form == 1)) [
-  | inl so ↦ subst (Gives (IsPlace form)) (sym (cond-true (form == 1) (give 0) u8 so)) (gives_it (IsPlace form) 0 (
+  | inl so ↦ subst (Gives (IsPlace form)) (sym (cond-true (form == 1) (give 0) u8_word so)) (gives_it (IsPlace form) 0 (
     omega arith,
     λ first. refl,
   ))
-  | inr other ↦ subst (Gives (IsPlace form)) (sym (cond-false (form == 1) (give 0) u8 other))
+  | inr other ↦ subst (Gives (IsPlace form)) (sym (cond-false (form == 1) (give 0) u8_word other))
       (word_gives (IsPlace form) (number_of 255)
       (λ w at h. (omega (arith, number_within 255 at w h), λ first. absurd (cc (other, ap (λ f. f == 1) first)))))
 ]
@@ -373,7 +373,7 @@ cause_number (row ∷ rows) all w c h = elim (cases_Bool (bytes_eq w row.0)) [
 
 pub record IsHand (least : ℕ) (e : HandEnd) : Type 0 where
   pub ranges : HandHasRanges e
-  pub cause : HasCause e
+  pub cause : HasHandCause e
   pub above : least ≤ e.hand
 
 abbrev Row : List ℕ × ℕ → Type 0
@@ -422,7 +422,7 @@ pub saved_in_range : (form : ℕ) (line : List ℕ) (s : SavedLine) → said (sa
 saved_in_range form = said_gives (IsSaved form) (saved form) (saved_gives form)
 
 pub record IsStatus (form status : ℕ) : Type 0 where
-  pub told : IsTold status
+  pub told : IsEndStatus status
   pub old : form ≡ 1 → status ≢ 10
 
 told_is : (form status : ℕ) → is_told form status ≡ true → IsStatus form status

@@ -1,4 +1,4 @@
--- The parts of a ledger, read one behind the other.
+-- The parts of a ledger, read one after the other.
 use Rattle.std.proofs.Common.{◌≡◌, ℕ, suc, ◌+◌, ◌==◌, true, false, decimal, List, [], ◌∷◌, ◌++◌, length, map, All, Option, Some, None, Ok, codes, refl, ap, ◌∙◌, arith}
 use Rattle.std.proofs.lemmas.Bool.{cond-false, ne_eqb, and_from}
 use Rattle.std.proofs.lemmas.List.Elements.{All-head, All-tail}
@@ -9,16 +9,16 @@ use Rattle.ft_text.specs.declared.record.HandEnd.{HandEnd}
 use Rattle.ft_text.specs.declared.record.SavedLine.{SavedLine}
 use Rattle.ft_text.specs.Words.{numbers}
 use Rattle.ft_text.specs.Texts.{batch_text}
-use Rattle.ft_text.specs.Record.{Ascend, HasCause, CanBeRefused}
+use Rattle.ft_text.specs.Record.{Ascend, HasHandCause, CanBeRefused}
 use Rattle.ft_text.specs.Ledger.{entry_line, refusal_line, tick_line, tick_lines, hand_line, hand_cause, saved_line, end_line, cause_words}
 use Rattle.ft_text.specs.LedgerWords.{Taking, if_over, said, entry, refusal, tick, hand}
-use Rattle.ft_text.specs.LedgerReading.{Place, one_line, line_or_wrong, lines_from, while_some, also, many}
+use Rattle.ft_text.specs.LedgerReading.{LedgerPlace, one_line, line_or_wrong, lines_from, while_some, also, many}
 use Rattle.ft_text.specs.LedgerBack.{EntryHasRanges, RefusalHasRanges, TickHasRanges, HandHasRanges}
 use Rattle.ft_text.proofs.PlainBytes.{plain, plain_decimal, plain_numbers, words_append}
 use Rattle.ft_text.proofs.SplitsBack.{split, split_words, split_before}
 use Rattle.ft_text.proofs.LedgerLinesBack.{TextGives, TellsPlace, entry_back, refusal_back, tick_back, hand_back, cause_name, plain_cause}
 
-abbrev pub at_place : ℕ → List (List ℕ) → Place
+abbrev pub at_place : ℕ → List (List ℕ) → LedgerPlace
 at_place at left = record { at = at; left = left }
 
 -- ---- one line
@@ -91,7 +91,7 @@ entries_are form (e ∷ entries) state gives all =
       entries_are form entries state (All-tail Gives e entries gives) (All-tail EntryHasRanges e entries all),
     )
 
--- a refusal can be told in this form
+-- a refusal can be written in this form
 abbrev pub TellsRefusal : ℕ → Refusal → Type 0
 TellsRefusal form f = TextGives form f.batch × TellsPlace form f.cause
 
@@ -113,12 +113,12 @@ ticks_are [] n all = tt
 ticks_are (t ∷ ticks) n all =
     (tick_back n t (All-head TickHasRanges t ticks all), ticks_are ticks (suc n) (All-tail TickHasRanges t ticks all))
 
-pub hands_are : (hands : List HandEnd) (least : ℕ) → All HandHasRanges hands → All HasCause hands → Ascend least hands
+pub hands_are : (hands : List HandEnd) (least : ℕ) → All HandHasRanges hands → All HasHandCause hands → Ascend least hands
     → AreLines (λ least. said (hand least)) (λ least end. end.hand + 1) least hands (map hand_line hands)
 hands_are [] least all causes up = tt
 hands_are (h ∷ hands) least all causes up = (
-  hand_back least h (All-head HandHasRanges h hands all) (All-head HasCause h hands causes) up.0,
-  hands_are hands (h.hand + 1) (All-tail HandHasRanges h hands all) (All-tail HasCause h hands causes) up.1,
+  hand_back least h (All-head HandHasRanges h hands all) (All-head HasHandCause h hands causes) up.0,
+  hands_are hands (h.hand + 1) (All-tail HandHasRanges h hands all) (All-tail HasHandCause h hands causes) up.1,
 )
 
 -- ---- how a line begins
@@ -150,7 +150,7 @@ tick_begins n t =
     let ns = n ∷ t.version ∷ t.order ∷ t.row ∷ t.tick ∷ t.frames ∷ [] in
     record { rest = numbers ns; words = split_words (codes "t") (numbers ns) refl (plain_numbers ns) }
 
-pub hand_begins : (h : HandEnd) → HasCause h → Begins (codes "h") (hand_line h)
+pub hand_begins : (h : HandEnd) → HasHandCause h → Begins (codes "h") (hand_line h)
 hand_begins h c =
     let ws = decimal h.hand ∷ hand_cause h.cause ∷ decimal h.at ∷ [] in
     record {

@@ -9,11 +9,11 @@ use Rattle.ft_types.specs.declared.journal.Refusal.{Refusal}
 use Rattle.ft_types.specs.declared.tick_report.TickReport.{TickReport}
 use Rattle.ft_text.specs.declared.record.HandEnd.{HandEnd}
 use Rattle.ft_text.specs.declared.record.SavedLine.{SavedLine}
-use Rattle.ft_text.specs.Record.{Account, IsTellable, HasCause}
+use Rattle.ft_text.specs.Record.{LedgerAccount, IsTellable, HasHandCause}
 use Rattle.ft_text.specs.Ledger.{head_line, play_line, entry_line, refusal_line, tick_line, tick_lines, hand_line, saved_line, saved_lines, end_line, ledger_text}
 use Rattle.ft_text.specs.LedgerWords.{Taking, word, said, head, play, entry, refusal, tick, hand, saved, end}
-use Rattle.ft_text.specs.LedgerReading.{Place, line_number, one_line, many, lines_of, maybe_line, none_or, line_or_wrong, over, ledger, ledger_of}
-use Rattle.ft_text.specs.LedgerBack.{IsFirst, IsOld, HasRanges, EntryHasRanges, RefusalHasRanges, SavedHasRanges}
+use Rattle.ft_text.specs.LedgerReading.{LedgerPlace, line_number, one_line, many, lines_of, maybe_line, none_or, line_or_wrong, over, ledger, ledger_of}
+use Rattle.ft_text.specs.LedgerBack.{IsFirst, IsOld, AccountHasRanges, EntryHasRanges, RefusalHasRanges, SavedHasRanges}
 use Rattle.ft_text.proofs.LedgerLinesBack.{TextGives, TellsPlace, TellsSaved, TellsStatus, head_back, old_head_back, play_back, saved_back, end_back, told_test, old_told_test, places_told}
 use Rattle.ft_text.proofs.LedgerPartsBack.{at_place, one_back, many_back, Stops, some_behind, TellsRefusal, entries_are, refusals_are, ticks_are, hands_are, refusal_begins, tick_begins, hand_begins, saved_begins, end_begins, no_value}
 use Rattle.ft_text.proofs.LedgerLines.{parts_are}
@@ -35,11 +35,11 @@ stops_saved : {A : Type 0} (taking : Taking A) (s : Option SavedLine) (rest : Li
 stops_saved taking None rest none stop = stop
 stops_saved taking (Some s) rest none stop = no_value taking (codes "s") (saved_line s) (saved_begins s) none
 
-stops_hands : {A : Type 0} (taking : Taking A) (hs : List HandEnd) (rest : List (List ℕ)) → All HasCause hs → Refuses taking (codes "h")
+stops_hands : {A : Type 0} (taking : Taking A) (hs : List HandEnd) (rest : List (List ℕ)) → All HasHandCause hs → Refuses taking (codes "h")
     → Stops (said taking) rest → Stops (said taking) (map hand_line hs ++ rest)
 stops_hands taking [] rest causes none stop = stop
 stops_hands taking (h ∷ hs) rest causes none stop = no_value taking (codes "h") (hand_line h)
-    (hand_begins h (All-head HasCause h hs causes)) none
+    (hand_begins h (All-head HasHandCause h hs causes)) none
 
 stops_ticks : {A : Type 0} (taking : Taking A) (n : ℕ) (ts : List TickReport) (rest : List (List ℕ)) → Refuses taking (codes "t")
     → Stops (said taking) rest → Stops (said taking) (tick_lines n ts ++ rest)
@@ -61,7 +61,7 @@ one_wrong : {A : Type 0} (value : List ℕ → Option A) (at : ℕ) (line : List
     → one_line value (at_place at (line ∷ rest)) ≡ Err (line_number at)
 unfolding one_line
 one_wrong {A} value at line rest none =
-    let wrong : Result (A × Place) ℕ = Err (line_number at) in
+    let wrong : Result (A × LedgerPlace) ℕ = Err (line_number at) in
     ap (λ found. cond (length rest == 0) wrong (line_or_wrong at rest found)) none ∙ same_either_way (length rest == 0) wrong
 
 saved_part : (form : ℕ) (s : Option SavedLine) (at : ℕ) (rest : List (List ℕ)) → IfSome s (λ s. TellsSaved form) → IfSome s SavedHasRanges
@@ -106,40 +106,40 @@ unfolding word
 entry_refuses form = (λ rest. refl, λ rest. refl, λ rest. refl, λ rest. refl, λ rest. refl)
 
 -- the lines of an account from each part on
-abbrev last_lines : Account → List (List ℕ)
+abbrev last_lines : LedgerAccount → List (List ℕ)
 last_lines a = end_line a.run.status (length a.ticks) ∷ [] ∷ []
 
-abbrev saved_on : Account → List (List ℕ)
+abbrev saved_on : LedgerAccount → List (List ℕ)
 saved_on a = saved_lines a.saved ++ last_lines a
 
-abbrev hands_on : Account → List (List ℕ)
+abbrev hands_on : LedgerAccount → List (List ℕ)
 hands_on a = map hand_line a.hands ++ saved_on a
 
-abbrev ticks_on : Account → List (List ℕ)
+abbrev ticks_on : LedgerAccount → List (List ℕ)
 ticks_on a = tick_lines 0 a.ticks ++ hands_on a
 
-abbrev refusals_on : ℕ → Account → List (List ℕ)
+abbrev refusals_on : ℕ → LedgerAccount → List (List ℕ)
 refusals_on form a = map (refusal_line form) a.refusals ++ ticks_on a
 
-stops_all_hands : (a : Account) (least : ℕ) → Stops (said (hand least)) (saved_on a)
+stops_all_hands : (a : LedgerAccount) (least : ℕ) → Stops (said (hand least)) (saved_on a)
 stops_all_hands a least =
     let no = hand_refuses least in
     stops_saved (hand least) a.saved (last_lines a) no.0 (stops_end (hand least) a.run.status (length a.ticks) no.1)
 
-stops_all_ticks : (a : Account) → All HasCause a.hands → (n : ℕ) → Stops (said (tick n)) (hands_on a)
+stops_all_ticks : (a : LedgerAccount) → All HasHandCause a.hands → (n : ℕ) → Stops (said (tick n)) (hands_on a)
 stops_all_ticks a causes n =
     let no = tick_refuses n in
     stops_hands (tick n) a.hands (saved_on a) causes no.0
     (stops_saved (tick n) a.saved (last_lines a) no.1 (stops_end (tick n) a.run.status (length a.ticks) no.2))
 
-stops_all_refusals : (form : ℕ) (a : Account) → All HasCause a.hands → Stops (said (refusal form)) (ticks_on a)
+stops_all_refusals : (form : ℕ) (a : LedgerAccount) → All HasHandCause a.hands → Stops (said (refusal form)) (ticks_on a)
 stops_all_refusals form a causes =
     let no = refusal_refuses form in
     let taking = refusal form in
     stops_ticks taking 0 a.ticks (hands_on a) no.0 (stops_hands taking a.hands (saved_on a) causes no.1
     (stops_saved taking a.saved (last_lines a) no.2 (stops_end taking a.run.status (length a.ticks) no.3)))
 
-stops_entries : (form : ℕ) (a : Account) → All HasCause a.hands → Stops (said (entry form)) (refusals_on form a)
+stops_entries : (form : ℕ) (a : LedgerAccount) → All HasHandCause a.hands → Stops (said (entry form)) (refusals_on form a)
 stops_entries form a causes =
     let no = entry_refuses form in
     let taking = entry form in
@@ -149,15 +149,15 @@ stops_entries form a causes =
 
 -- ---- all
 
--- an account can be told in this form
-pub record InForm (form : ℕ) (a : Account) : Type 0 where
+-- an account can be written in this form
+pub record InForm (form : ℕ) (a : LedgerAccount) : Type 0 where
   pub first : said head (head_line form) ≡ Some form
   pub entries : All (λ e. TextGives form e.batch) a.entries
   pub refusals : All (TellsRefusal form) a.refusals
   pub song : IfSome a.saved (λ s. TellsSaved form)
   pub ending : TellsStatus form a.run.status
 
-pub whole_back : (form : ℕ) (a : Account) → InForm form a → IsTellable a → HasRanges a → ledger_of (ledger_text form a) ≡ Ok a
+pub whole_back : (form : ℕ) (a : LedgerAccount) → InForm form a → IsTellable a → AccountHasRanges a → ledger_of (ledger_text form a) ≡ Ok a
 unfolding ledger_of ledger
 whole_back form a f t r =
     let run = a.run in
@@ -201,7 +201,7 @@ whole_back form a f t r =
     (end_back form run.status (length a.ticks) t.status f.ending) in
     rw (parts_are form a t.causes, e1, e2, e3, e4, e5, e6, song.1, e8, over_back a (song.0 + 1)) refl
 
-pub same_account : (a b : Account) → ◌≡◌ {A = Result Account ℕ} (Ok a) (Ok b) → a ≡ b
+pub same_account : (a b : LedgerAccount) → ◌≡◌ {A = Result LedgerAccount ℕ} (Ok a) (Ok b) → a ≡ b
 same_account a b same = cc
 
 -- ---- the two forms
@@ -216,7 +216,7 @@ if_some : (s : Option SavedLine) (P : Type 0) → P → IfSome s (λ s. P)
 if_some None P p = tt
 if_some (Some s) P p = p
 
-pub in_form_2 : (a : Account) → IsTellable a → HasRanges a → InForm 2 a
+pub in_form_2 : (a : LedgerAccount) → IsTellable a → AccountHasRanges a → InForm 2 a
 in_form_2 a t r = record {
   first = head_back;
   entries = all_too EntryHasRanges (λ e. TextGives 2 e.batch) a.entries
@@ -237,7 +237,7 @@ no_song : (s : Option SavedLine) → s ≡ None → IfSome s (λ s. TellsSaved 1
 no_song None e = tt
 no_song (Some s) e = absurd (cc)
 
-pub in_form_1 : (a : Account) → IsOld a → IsTellable a → HasRanges a → InForm 1 a
+pub in_form_1 : (a : LedgerAccount) → IsOld a → IsTellable a → AccountHasRanges a → InForm 1 a
 in_form_1 a old t r = record {
   first = old_head_back;
   entries = all_both EntryHasRanges (λ e. length e.batch ≡ 1) (λ e. TextGives 1 e.batch) a.entries

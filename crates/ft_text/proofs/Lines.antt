@@ -4,7 +4,7 @@ use Rattle.std.specs.Fmt.{digits}
 use Rattle.hex.specs.Hex.{encode_with, decode_pairs}
 use Rattle.ft_types.specs.declared.edit.Edit.TheVariants as edits
 use Rattle.ft_text.specs.Reading.{spaces, word_length, next_word}
-use Rattle.ft_text.specs.Edits.{edit_reading, readings, bpm_reading, cell_reading, delpat_reading, i16, i8, insname_reading, name_20, name_22, order_reading, paste_reading, scale_reading, tempo_reading, title_reading, transpose_reading, u16, u32, u8, wide_frames}
+use Rattle.ft_text.specs.Edits.{edit_reading, readings, bpm_reading, cell_reading, delpat_reading, i16, i8, insname_reading, name_20, name_22, order_reading, paste_reading, scale_reading, tempo_reading, title_reading, transpose_reading, u16, u32, u8, frames_argument}
 use Rattle.ft_text.specs.Lines.{beginning, timed_reading, time_reading, edits_reading, others_reading, another_reading, line_of}
 
 three_words_of_spaces : line_of 15 (codes "  at  7   tempo 3 ") ≡ Ok (Some (Some 7, edits.Tempo 3 ∷ []))
@@ -104,12 +104,12 @@ short_name = refl
 
 half_a_frame : line_of 15 (codes "paste 1 0 4 ff8") ≡ Err 12
 unfolding beginning timed_reading time_reading edits_reading others_reading another_reading
-    edit_reading readings paste_reading u8 u32 wide_frames next_word spaces word_length digits encode_with decode_pairs
+    edit_reading readings paste_reading u8 u32 frames_argument next_word spaces word_length digits encode_with decode_pairs
 half_a_frame = refl
 
 frames : line_of 15 (codes "paste 1 0 4 ff800080") ≡ Ok (Some (None, edits.Paste 1 0 4 (negsuc 127 ∷ pos 128 ∷ []) ∷ []))
 unfolding beginning timed_reading time_reading edits_reading others_reading another_reading
-    edit_reading readings paste_reading u8 u32 wide_frames next_word spaces word_length digits encode_with decode_pairs
+    edit_reading readings paste_reading u8 u32 frames_argument next_word spaces word_length digits encode_with decode_pairs
 frames = refl
 
 no_second_edit : line_of 0 (codes "delpat ; delpat") ≡ Err 7

@@ -7,7 +7,7 @@ use Rattle.std.proofs.lemmas.List.Elements.{All-nil, All-head, All-tail}
 use Rattle.ft_types.specs.declared.edit.Edit.{Edit}
 use Rattle.ft_types.specs.Edits.{IsGivable}
 use Rattle.ft_text.specs.Texts.{spaced, text_of_words, edit_text, batch_text}
-use Rattle.ft_text.specs.Reading.{Place, give, follow, ◌>>=◌, spaces, is_over, or_wrong}
+use Rattle.ft_text.specs.Reading.{LinePlace, give, follow, ◌>>=◌, spaces, is_over, or_wrong}
 use Rattle.ft_text.specs.Edits.{named, readings, edit_reading}
 use Rattle.ft_text.specs.Lines.{this_word, begins_with_hash, another_reading, others_reading, edits_reading, time_if, time_reading, timed_reading, value_only, beginning, read_from, line_of}
 use Rattle.ft_text.specs.ReadBack.{HasRanges, EditsAreReadBack, TextsDiffer, IsBatch, BatchesAreReadBack}
@@ -53,7 +53,7 @@ edit_reads edit w at rest end =
 pub edit_behind_space : (at : ℕ) (left : List ℕ) → edit_reading (place at (32 ∷ left)) ≡ edit_reading (place (at + 1) left)
 unfolding edit_reading
 edit_behind_space at left =
-    let rest : Result ((ℕ × List ℕ) × Place) ℕ → Result (Edit × Place) ℕ =
+    let rest : Result ((ℕ × List ℕ) × LinePlace) ℕ → Result (Edit × LinePlace) ℕ =
     λ r. follow (λ arguments. arguments) (follow (λ found. or_wrong found.0 (named readings found.1)) r) in
     ap rest (same_behind_space at left)
 
@@ -94,10 +94,10 @@ others_read (edit ∷ edits) (suc more) at few ranges givable =
     let p = another_reads edit w at (others_text edits) (others_end_a_word edits) in
     let q = others_read edits more p.0 (omega arith) (All-tail HasRanges edit edits ranges) (All-tail IsGivable edit edits givable) in
     let open_line = not_over_behind_space at (codes ";") (32 ∷ (edit_text edit ++ others_text edits)) separator in
-    let rest : Result (Edit × Place) ℕ → Result (List Edit × Place) ℕ =
+    let rest : Result (Edit × LinePlace) ℕ → Result (List Edit × LinePlace) ℕ =
     follow (λ e. others_reading more >>= (λ others. give (e ∷ others))) in
-    let behind : Result (List Edit × Place) ℕ → Result (List Edit × Place) ℕ = follow (λ others. give (edit ∷ others)) in
-    let here : Place = place at (others_text (edit ∷ edits)) in
+    let behind : Result (List Edit × LinePlace) ℕ → Result (List Edit × LinePlace) ℕ = follow (λ others. give (edit ∷ others)) in
+    let here : LinePlace = place at (others_text (edit ∷ edits)) in
     (q.0, cond-false (is_over here) (Ok ([], here)) (rest (another_reading here)) open_line ∙ (ap rest p.1 ∙ ap behind q.1))
 
 -- ---- a line
@@ -112,7 +112,7 @@ unfolding beginning
 reads_from_its_front name rest begins short =
     let line = name ++ rest in
     let hash = same_first name rest begins.is.some ∙ begins.no_hash in
-    let start : Result (Option Place) ℕ = Ok (Some (place 0 line)) in
+    let start : Result (Option LinePlace) ℕ = Ok (Some (place 0 line)) in
     cond-false (nat_lt 4096 (length line)) (Err 4096) (cond (begins_with_hash line || is_over (place 0 line)) (Ok None) start)
     (le-ltb 4096 (length line) short)
     ∙ cond-false (begins_with_hash line || is_over (place 0 line)) (Ok None) start
@@ -132,18 +132,18 @@ unfolding edits_reading
 edits_are_read edit others more w few ranges givable =
     let p = edit_reads edit w 0 (others_text others) (others_end_a_word others) in
     let q = others_read others more p.0 few ranges givable in
-    let rest : Result (Edit × Place) ℕ → Result (List Edit × Place) ℕ =
+    let rest : Result (Edit × LinePlace) ℕ → Result (List Edit × LinePlace) ℕ =
     follow (λ e. others_reading more >>= (λ es. give (e ∷ es))) in
-    let behind : Result (List Edit × Place) ℕ → Result (List Edit × Place) ℕ = follow (λ es. give (edit ∷ es)) in
+    let behind : Result (List Edit × LinePlace) ℕ → Result (List Edit × LinePlace) ℕ = follow (λ es. give (edit ∷ es)) in
     (q.0, ap rest p.1 ∙ ap behind q.1)
 
-timed_is_read : (edits : List Edit) (more end : ℕ) (p : Place) → time_reading p ≡ Ok (None, p)
+timed_is_read : (edits : List Edit) (more end : ℕ) (p : LinePlace) → time_reading p ≡ Ok (None, p)
     → edits_reading more p ≡ Ok (edits, place end []) → value_only (timed_reading more p) ≡ Ok (Some (None, edits))
 unfolding timed_reading
 timed_is_read edits more end p time read =
-    let behind : Result (Option ℕ × Place) ℕ → Result (Option (Option ℕ × List Edit)) ℕ =
+    let behind : Result (Option ℕ × LinePlace) ℕ → Result (Option (Option ℕ × List Edit)) ℕ =
     λ r. value_only (follow (λ time. edits_reading more >>= (λ es. give (time, es))) r) in
-    let last : Result (List Edit × Place) ℕ → Result (Option (Option ℕ × List Edit)) ℕ =
+    let last : Result (List Edit × LinePlace) ℕ → Result (Option (Option ℕ × List Edit)) ℕ =
     λ r. value_only (follow (λ es. give (None, es)) r) in
     ap behind time ∙ ap last read
 
@@ -196,9 +196,9 @@ first_said edit (Ok (Some said)) = head_or edit said.1
 first_said edit (Ok None) = edit
 first_said edit (Err at) = edit
 
-pub texts_differ : TextsDiffer
+pub different_edits_have_different_texts : TextsDiffer
 unfolding first_said head_or
-texts_differ a b ranges_a givable_a ranges_b givable_b same =
+different_edits_have_different_texts a b ranges_a givable_a ranges_b givable_b same =
     ap (first_said a) (sym (edits_are_read_back a ranges_a givable_a)
     ∙ (ap (line_of 0) same ∙ edits_are_read_back b ranges_b givable_b))
 

@@ -1,4 +1,5 @@
--- What is read of a ledger can be told, and from the lines before a wrong one a ledger does go on.
+-- What is read of a ledger can be written, and from the lines before a wrong one a ledger does go
+-- on.
 use Rattle.std.proofs.Common.{◌≡◌, ◌≢◌, ℕ, suc, ◌+◌, ◌<◌, ◌≤◌, ◌==◌, false, ◌⊎◌, inl, inr, All, List, [], ◌∷◌, ◌++◌, length, map, Option, Some, None, Result, Ok, Err, refl, sym, ap, subst, ◌∙◌, arith, append_assoc, append-nil}
 use Rattle.std.specs.Prelude.{IfSome}
 use Rattle.std.specs.List.{onto_first, join_with_byte}
@@ -13,11 +14,11 @@ use Rattle.ft_types.specs.declared.tick_report.TickReport.{TickReport}
 use Rattle.ft_text.specs.declared.record.Run.{Run}
 use Rattle.ft_text.specs.declared.record.HandEnd.{HandEnd}
 use Rattle.ft_text.specs.declared.record.SavedLine.{SavedLine}
-use Rattle.ft_text.specs.Record.{Account, IsTellable, CanBeEntered, CanBeRefused, HasCause, Ascend}
-use Rattle.ft_text.specs.Ledger.{head_line, play_line, entry_line, refusal_line, tick_line, tick_lines, hand_line, saved_line, saved_lines, end_line, ledger_lines, ended, joined, ledger_text}
+use Rattle.ft_text.specs.Record.{LedgerAccount, IsTellable, CanBeEntered, CanBeRefused, HasHandCause, Ascend}
+use Rattle.ft_text.specs.Ledger.{head_line, play_line, entry_line, refusal_line, tick_line, tick_lines, hand_line, saved_line, saved_lines, end_line, ledger_lines, ended, joined_lines, ledger_text}
 use Rattle.ft_text.specs.LedgerWords.{said, head, play, entry, refusal, tick, hand, saved, end}
-use Rattle.ft_text.specs.LedgerReading.{Place, line_number, one_line, line_at, line_or_wrong, lines_from, while_some, many, maybe_line, none_or, is_end, over, follow, ledger, start_of, ledger_of}
-use Rattle.ft_text.specs.LedgerBack.{RunHasRanges, EntryHasRanges, RefusalHasRanges, TickHasRanges, HandHasRanges, SavedHasRanges, HasRanges, IsFirst, IsOld}
+use Rattle.ft_text.specs.LedgerReading.{LedgerPlace, line_number, one_line, line_at, line_or_wrong, lines_from, while_some, many, maybe_line, none_or, is_end, over, follow, ledger, ledger_start, ledger_of}
+use Rattle.ft_text.specs.LedgerBack.{RunHasRanges, EntryHasRanges, RefusalHasRanges, TickHasRanges, HandHasRanges, SavedHasRanges, AccountHasRanges, IsFirst, IsOld}
 use Rattle.ft_text.specs.LedgerExact.{AreLines, GoesOn}
 use Rattle.ft_text.proofs.Cuts.{some_part}
 use Rattle.ft_text.proofs.SplitsBack.{split}
@@ -30,15 +31,15 @@ use Rattle.ft_text.proofs.LedgerLinesInRange.{play_in_range, IsEntry, entry_in_r
 
 -- ---- accounts of a form
 
-pub record Fits (form : ℕ) (a : Account) : Type 0 where
+pub record Fits (form : ℕ) (a : LedgerAccount) : Type 0 where
   pub least : 1 ≤ form
   pub most : form ≤ 2
   pub told : IsTellable a
-  pub ranges : HasRanges a
+  pub ranges : AccountHasRanges a
   pub old : form ≡ 1 → IsOld a
 
 abbrev IsEnd : HandEnd → Type 0
-IsEnd end = HandHasRanges end × HasCause end
+IsEnd end = HandHasRanges end × HasHandCause end
 
 -- the parts of an account that were read in a form
 record Suits (form : ℕ) (run : Run) (es : List Entry) (rs : List Refusal) (ts : List TickReport) (hs : List HandEnd)
@@ -71,7 +72,7 @@ fits form run es rs ts hs s status suits is = record {
     entries = all_too (IsEntry form) CanBeEntered es (λ e is. (is.ranges.3).givable) suits.entries;
     refusals = all_too (IsRefusal form) CanBeRefused rs (λ f is. ((is.ranges.2).givable, is.told)) suits.refusals;
     ascending = suits.ascend;
-    causes = all_too IsEnd HasCause hs (λ e is. is.1) suits.hands;
+    causes = all_too IsEnd HasHandCause hs (λ e is. is.1) suits.hands;
   };
   ranges = record {
     run = suits.run_is;
@@ -92,10 +93,10 @@ fits form run es rs ts hs s status suits is = record {
 ended_well : (form : ℕ) → IsStatus form 0
 ended_well form = record { told = inl refl; old = λ first. λ ten. absurd (omega arith) }
 
--- ---- where a reading stands
+-- ---- where a reading is
 
--- these lines stand before a place, and something behind it
-record At (parts : List (List ℕ)) (p : Place) (before : List (List ℕ)) : Type 0 where
+-- these lines are before a place, and something behind it
+record At (parts : List (List ℕ)) (p : LedgerPlace) (before : List (List ℕ)) : Type 0 where
   pub cut : parts ≡ before ++ p.left
   pub some : (length p.left == 0) ≡ false
   pub count : p.at ≡ length before
@@ -109,15 +110,16 @@ record Stopped (parts : List (List ℕ)) (n : ℕ) : Type 0 where
   pub count : n ≡ line_number (length before)
   pub form : ℕ
   pub other : List (List ℕ)
-  pub account : Account
+  pub account : LedgerAccount
   pub lines : ledger_lines form account ≡ before ++ other
   pub fit : Fits form account
 
-abbrev Outcome : List (List ℕ) → Result (Account × Place) ℕ → Type 0
+abbrev Outcome : List (List ℕ) → Result (LedgerAccount × LedgerPlace) ℕ → Type 0
 Outcome parts (Ok read) = (form : ℕ) × Fits form read.0
 Outcome parts (Err n) = Stopped parts n
 
-stopped_at : (parts before other : List (List ℕ)) (p : Place) (n form : ℕ) (a : Account) → At parts p before → n ≡ line_number p.at
+stopped_at : (parts before other : List (List ℕ)) (p : LedgerPlace) (n form : ℕ) (a : LedgerAccount) → At parts p before
+    → n ≡ line_number p.at
     → ledger_lines form a ≡ before ++ other → Fits form a → Stopped parts n
 stopped_at parts before other p n form a here counted lines fit = record {
   before = before;
@@ -134,11 +136,11 @@ stopped_at parts before other p n form a here counted lines fit = record {
 
 -- ---- one line
 
-record Moved (p q : Place) : Type 0 where
+record Moved (p q : LedgerPlace) : Type 0 where
   pub at : q.at ≡ p.at + 1
   pub some : (length q.left == 0) ≡ false
 
-one_moves : {A : Type 0} (value : List ℕ → Option A) (p q : Place) (x : A) → one_line value p ≡ Ok (x, q) → Moved p q
+one_moves : {A : Type 0} (value : List ℕ → Option A) (p q : LedgerPlace) (x : A) → one_line value p ≡ Ok (x, q) → Moved p q
 unfolding one_line
 one_moves {A} value p q x h = go p.left h where
   line_go : (rest : List (List ℕ)) (o : Option A) → (length rest == 0) ≡ false → line_or_wrong p.at rest o ≡ Ok (x, q) → Moved p q
@@ -150,14 +152,14 @@ one_moves {A} value p q x h = go p.left h where
   go : (left : List (List ℕ)) → line_at value p.at left ≡ Ok (x, q) → Moved p q
   go [] k = absurd (cc)
   go (line ∷ rest) k =
-      let wrong : Result (A × Place) ℕ = Err (line_number p.at) in
+      let wrong : Result (A × LedgerPlace) ℕ = Err (line_number p.at) in
       elim (cases_Bool (length rest == 0)) [
         | inl so ↦ absurd (cc (cond-true (length rest == 0) wrong (line_or_wrong p.at rest (value line)) so, k))
         | inr other ↦ line_go rest (value line) other
             (sym (cond-false (length rest == 0) wrong (line_or_wrong p.at rest (value line)) other) ∙ k)
       ]
 
-one_stops : {A : Type 0} (value : List ℕ → Option A) (p : Place) (n : ℕ) → one_line value p ≡ Err n → n ≡ line_number p.at
+one_stops : {A : Type 0} (value : List ℕ → Option A) (p : LedgerPlace) (n : ℕ) → one_line value p ≡ Err n → n ≡ line_number p.at
 unfolding one_line
 one_stops {A} value p n h = go p.left h where
   line_go : (rest : List (List ℕ)) (o : Option A) → line_or_wrong p.at rest o ≡ Err n → n ≡ line_number p.at
@@ -167,14 +169,14 @@ one_stops {A} value p n h = go p.left h where
   go : (left : List (List ℕ)) → line_at value p.at left ≡ Err n → n ≡ line_number p.at
   go [] k = cc
   go (line ∷ rest) k =
-      let wrong : Result (A × Place) ℕ = Err (line_number p.at) in
+      let wrong : Result (A × LedgerPlace) ℕ = Err (line_number p.at) in
       elim (cases_Bool (length rest == 0)) [
         | inl so ↦ cc (cond-true (length rest == 0) wrong (line_or_wrong p.at rest (value line)) so, k)
         | inr other ↦ line_go rest (value line) (sym (cond-false (length rest == 0) wrong (line_or_wrong p.at rest (value line)) other) ∙ k)
       ]
 
 -- the place behind a line
-at_next : (parts before : List (List ℕ)) (line : List ℕ) (p q : Place) → At parts p before → p.left ≡ line ∷ q.left → Moved p q
+at_next : (parts before : List (List ℕ)) (line : List ℕ) (p q : LedgerPlace) → At parts p before → p.left ≡ line ∷ q.left → Moved p q
     → At parts q (before ++ line ∷ [])
 at_next parts before line p q here cut moved = record {
   cut = here.cut ∙ ap (λ l. before ++ l) cut ∙ sym (append_assoc before (line ∷ []) q.left);
@@ -256,7 +258,7 @@ written_length line moved state (x ∷ xs) = ap suc (written_length line moved (
 -- the place behind several lines
 at_behind : {S A : Type 0} (value : S → List ℕ → Option A) (moved : S → A → S) (line : S → A → List ℕ)
     → ((s : S) (l : List ℕ) (x : A) → value s l ≡ Some x → l ≡ line s x)
-    → (parts before lines : List (List ℕ)) (state : S) (p : Place) → At parts p before
+    → (parts before lines : List (List ℕ)) (state : S) (p : LedgerPlace) → At parts p before
     → written line moved state (lines_from value moved state p.left).0 ≡ lines
     → At parts (record { at = p.at + length (lines_from value moved state p.left).0; left = (lines_from value moved state p.left).1 })
     (before ++ lines)
@@ -301,12 +303,13 @@ lines_of_made form run es rs ts hs s status = refl
 
 -- ---- from each part to the end
 
-over_out : (parts before : List (List ℕ)) (form : ℕ) (a : Account) (p : Place) → At parts p before → ledger_lines form a ≡ before
+over_out : (parts before : List (List ℕ)) (form : ℕ) (a : LedgerAccount) (p : LedgerPlace) → At parts p before
+    → ledger_lines form a ≡ before
     → Fits form a → Outcome parts (over a p)
 unfolding over
 over_out parts before form a p here lines fit =
-    let done : Result (Account × Place) ℕ = Ok (a, p) in
-    let wrong : Result (Account × Place) ℕ = Err (line_number p.at) in
+    let done : Result (LedgerAccount × LedgerPlace) ℕ = Ok (a, p) in
+    let wrong : Result (LedgerAccount × LedgerPlace) ℕ = Err (line_number p.at) in
     elim (cases_Bool (is_end p.left)) [
       | inl so ↦ subst (Outcome parts) (sym (cond-true (is_end p.left) done wrong so)) (form, fit)
       | inr other ↦ subst (Outcome parts) (sym (cond-false (is_end p.left) done wrong other))
@@ -314,10 +317,10 @@ over_out parts before form a p here lines fit =
     ]
 
 end_out : (parts : List (List ℕ)) (form : ℕ) (run : Run) (es : List Entry) (rs : List Refusal) (ts : List TickReport) (hs : List HandEnd)
-    (s : Option SavedLine) (p : Place) → Suits form run es rs ts hs s → At parts p (to_saved form run es rs ts hs s)
+    (s : Option SavedLine) (p : LedgerPlace) → Suits form run es rs ts hs s → At parts p (to_saved form run es rs ts hs s)
     → Outcome parts (from_end form run es rs ts hs s p)
 end_out parts form run es rs ts hs s p suits here = go (one_line (said (end form (length ts))) p) refl where
-  go : (r : Result (ℕ × Place) ℕ) → one_line (said (end form (length ts))) p ≡ r
+  go : (r : Result (ℕ × LedgerPlace) ℕ) → one_line (said (end form (length ts))) p ≡ r
       → Outcome parts (follow (λ status. over (made_of run es rs ts hs s status)) r)
   go (Err n) e =
       stopped_at parts (to_saved form run es rs ts hs s) (end_line 0 (length ts) ∷ []) p n form (made_of run es rs ts hs s 0) here
@@ -335,11 +338,11 @@ end_out parts form run es rs ts hs s p suits here = go (one_line (said (end form
       (lines_of_made form run es rs ts hs s read.0) (fits form run es rs ts hs s read.0 suits status)
 
 saved_out : (parts : List (List ℕ)) (form : ℕ) (run : Run) (es : List Entry) (rs : List Refusal) (ts : List TickReport) (hs : List HandEnd)
-    (p : Place) → Suits form run es rs ts hs None → At parts p (to_hands form run es rs ts hs)
+    (p : LedgerPlace) → Suits form run es rs ts hs None → At parts p (to_hands form run es rs ts hs)
     → Outcome parts (from_saved form run es rs ts hs p)
 unfolding maybe_line
 saved_out parts form run es rs ts hs p suits here = go (one_line (said (saved form)) p) refl where
-  go : (r : Result (SavedLine × Place) ℕ) → one_line (said (saved form)) p ≡ r
+  go : (r : Result (SavedLine × LedgerPlace) ℕ) → one_line (said (saved form)) p ≡ r
       → Outcome parts (follow (from_end form run es rs ts hs) (none_or p r))
   go (Err n) e = end_out parts form run es rs ts hs None p suits
       (subst (At parts p) (sym (append-nil (to_hands form run es rs ts hs))) here)
@@ -362,12 +365,12 @@ saved_out parts form run es rs ts hs p suits here = go (one_line (said (saved fo
       (at_next parts (to_hands form run es rs ts hs) (saved_line read.0) p read.1 here cut
       (one_moves (said (saved form)) p read.1 read.0 e))
 
-hands_out : (parts : List (List ℕ)) (form : ℕ) (run : Run) (es : List Entry) (rs : List Refusal) (ts : List TickReport) (p : Place)
+hands_out : (parts : List (List ℕ)) (form : ℕ) (run : Run) (es : List Entry) (rs : List Refusal) (ts : List TickReport) (p : LedgerPlace)
     → Suits form run es rs ts [] None → At parts p (to_ticks form run es rs ts) → Outcome parts (from_hands form run es rs ts p)
 unfolding many
 hands_out parts form run es rs ts p suits here =
     let read = hands_in 0 p.left in
-    let q : Place = record { at = p.at + length read.0; left = read.1 } in
+    let q : LedgerPlace = record { at = p.at + length read.0; left = read.1 } in
     saved_out parts form run es rs ts read.0 q
     (record {
       least = suits.least;
@@ -384,12 +387,12 @@ hands_out parts form run es rs ts p suits here =
     (at_behind (λ least. said (hand least)) (λ least end. end.hand + 1) (λ s. hand_line) hand_line_is parts (to_ticks form run es rs ts)
     (map hand_line read.0) 0 p here (written_hands 0 read.0))
 
-ticks_out : (parts : List (List ℕ)) (form : ℕ) (run : Run) (es : List Entry) (rs : List Refusal) (p : Place)
+ticks_out : (parts : List (List ℕ)) (form : ℕ) (run : Run) (es : List Entry) (rs : List Refusal) (p : LedgerPlace)
     → Suits form run es rs [] [] None → At parts p (to_refusals form run es rs) → Outcome parts (from_ticks form run es rs p)
 unfolding many
 ticks_out parts form run es rs p suits here =
     let read = lines_from (λ n. said (tick n)) (λ n x. suc n) 0 p.left in
-    let q : Place = record { at = p.at + length read.0; left = read.1 } in
+    let q : LedgerPlace = record { at = p.at + length read.0; left = read.1 } in
     hands_out parts form run es rs read.0 q
     (record {
       least = suits.least;
@@ -405,12 +408,12 @@ ticks_out parts form run es rs p suits here =
     (at_behind (λ n. said (tick n)) (λ n x. suc n) tick_line tick_line_is parts (to_refusals form run es rs)
     (tick_lines 0 read.0) 0 p here (written_ticks 0 read.0))
 
-refusals_out : (parts : List (List ℕ)) (form : ℕ) (run : Run) (es : List Entry) (p : Place)
+refusals_out : (parts : List (List ℕ)) (form : ℕ) (run : Run) (es : List Entry) (p : LedgerPlace)
     → Suits form run es [] [] [] None → At parts p (to_entries form run es) → Outcome parts (from_refusals form run es p)
 unfolding many
 refusals_out parts form run es p suits here =
     let read = lines_from {S = ℕ} (λ s. said (refusal form)) (λ s x. s) 0 p.left in
-    let q : Place = record { at = p.at + length read.0; left = read.1 } in
+    let q : LedgerPlace = record { at = p.at + length read.0; left = read.1 } in
     ticks_out parts form run es read.0 q
     (record {
       least = suits.least;
@@ -426,12 +429,12 @@ refusals_out parts form run es p suits here =
     (at_behind {S = ℕ} (λ s. said (refusal form)) (λ s x. s) (λ s. refusal_line form) (λ s. refusal_line_is form) parts
     (to_entries form run es) (map (refusal_line form) read.0) 0 p here (written_map (refusal_line form) 0 read.0))
 
-entries_out : (parts : List (List ℕ)) (form : ℕ) (run : Run) (p : Place)
+entries_out : (parts : List (List ℕ)) (form : ℕ) (run : Run) (p : LedgerPlace)
     → Suits form run [] [] [] [] None → At parts p (to_play form run) → Outcome parts (from_entries form run p)
 unfolding many
 entries_out parts form run p suits here =
     let read = lines_from {S = ℕ} (λ s. said (entry form)) (λ s x. s) 0 p.left in
-    let q : Place = record { at = p.at + length read.0; left = read.1 } in
+    let q : LedgerPlace = record { at = p.at + length read.0; left = read.1 } in
     refusals_out parts form run read.0 q
     (record {
       least = suits.least;
@@ -467,16 +470,16 @@ nothing_asked = record { rate = 0; seconds = 0; segments = 0; channels = 0; stat
 nothing_suits : (form : ℕ) → 1 ≤ form → form ≤ 2 → Suits form nothing_asked [] [] [] [] None
 nothing_suits form least most = no_parts form nothing_asked least most (omega arith, omega arith, omega arith, omega arith)
 
-abbrev shortest : Account
+abbrev shortest : LedgerAccount
 shortest = made_of nothing_asked [] [] [] [] None 0
 
 shortest_fits : (form : ℕ) → 1 ≤ form → form ≤ 2 → Fits form shortest
 shortest_fits form least most = fits form nothing_asked [] [] [] [] None 0 (nothing_suits form least most) (ended_well form)
 
-play_out : (parts : List (List ℕ)) (form : ℕ) (p : Place) → 1 ≤ form → form ≤ 2 → At parts p (first_line form)
+play_out : (parts : List (List ℕ)) (form : ℕ) (p : LedgerPlace) → 1 ≤ form → form ≤ 2 → At parts p (first_line form)
     → Outcome parts (from_play form p)
 play_out parts form p least most here = go (one_line (said play) p) refl where
-  go : (r : Result (Run × Place) ℕ) → one_line (said play) p ≡ r → Outcome parts (follow (from_entries form) r)
+  go : (r : Result (Run × LedgerPlace) ℕ) → one_line (said play) p ≡ r → Outcome parts (follow (from_entries form) r)
   go (Err n) e = stopped_at parts (first_line form) (play_line nothing_asked ∷ end_line 0 0 ∷ []) p n form shortest here
       (one_stops (said play) p n e) (lines_of_made form nothing_asked [] [] [] [] None 0) (shortest_fits form least most)
   go (Ok read) e =
@@ -486,10 +489,10 @@ play_out parts form p least most here = go (one_line (said play) p) refl where
       entries_out parts form read.0 read.1 (no_parts form read.0 least most (play_in_range one.line read.0 one.says))
       (at_next parts (first_line form) (play_line read.0) p read.1 here cut (one_moves (said play) p read.1 read.0 e))
 
-ledger_out : (parts : List (List ℕ)) (p : Place) → At parts p [] → Outcome parts (ledger p)
+ledger_out : (parts : List (List ℕ)) (p : LedgerPlace) → At parts p [] → Outcome parts (ledger p)
 unfolding ledger
 ledger_out parts p here = go (one_line (said head) p) refl where
-  go : (r : Result (ℕ × Place) ℕ) → one_line (said head) p ≡ r → Outcome parts (follow from_play r)
+  go : (r : Result (ℕ × LedgerPlace) ℕ) → one_line (said head) p ≡ r → Outcome parts (follow from_play r)
   go (Err n) e = stopped_at parts [] (head_line 2 ∷ play_line nothing_asked ∷ end_line 0 0 ∷ []) p n 2 shortest here
       (one_stops (said head) p n e) (lines_of_made 2 nothing_asked [] [] [] [] None 0) (shortest_fits 2 (omega arith) (omega arith))
   go (Ok read) e =
@@ -499,13 +502,13 @@ ledger_out parts p here = go (one_line (said head) p) refl where
       play_out parts read.0 read.1 is.1 is.2
       (at_next parts [] (head_line read.0) p read.1 here cut (one_moves (said head) p read.1 read.0 e))
 
-bytes_out : (bytes : List ℕ) → Outcome (split 10 bytes) (ledger (start_of bytes))
-bytes_out bytes = ledger_out (split 10 bytes) (start_of bytes) (record { cut = refl; some = some_part 10 bytes; count = refl })
+bytes_out : (bytes : List ℕ) → Outcome (split 10 bytes) (ledger (ledger_start bytes))
+bytes_out bytes = ledger_out (split 10 bytes) (ledger_start bytes) (record { cut = refl; some = some_part 10 bytes; count = refl })
 
-pub told_in_range : (bytes : List ℕ) (a : Account) → ledger_of bytes ≡ Ok a → IsTellable a × HasRanges a
+pub told_in_range : (bytes : List ℕ) (a : LedgerAccount) → ledger_of bytes ≡ Ok a → IsTellable a × AccountHasRanges a
 unfolding ledger_of
 told_in_range bytes a h =
-    let read = valued (ledger (start_of bytes)) a h in
+    let read = valued (ledger (ledger_start bytes)) a h in
     let out : Outcome (split 10 bytes) (Ok (a, read.0)) = subst (Outcome (split 10 bytes)) read.1 (bytes_out bytes) in
     ((out.1).told, (out.1).ranges)
 
@@ -534,19 +537,19 @@ clean_front (line ∷ lines) rest all = All-cons IsClean line lines (All-head Is
     (clean_front lines rest (All-tail IsClean line (lines ++ rest) all))
 
 join_front : (lines left : List (List ℕ)) → (length left == 0) ≡ false
-    → join_with_byte 10 (lines ++ left) ≡ joined lines ++ join_with_byte 10 left
+    → join_with_byte 10 (lines ++ left) ≡ joined_lines lines ++ join_with_byte 10 left
 join_front [] left some = refl
 join_front (line ∷ lines) left some =
     join_one line (lines ++ left) (some_behind lines left some)
     ∙ ap (λ t. line ++ (10 ∷ t)) (join_front lines left some)
-    ∙ sym (append_assoc line (10 ∷ []) (joined lines ++ join_with_byte 10 left))
-    ∙ sym (append_assoc (line ++ 10 ∷ []) (joined lines) (join_with_byte 10 left)) where
+    ∙ sym (append_assoc line (10 ∷ []) (joined_lines lines ++ join_with_byte 10 left))
+    ∙ sym (append_assoc (line ++ 10 ∷ []) (joined_lines lines) (join_with_byte 10 left)) where
       join_one : (line : List ℕ) (parts : List (List ℕ)) → (length parts == 0) ≡ false
           → join_with_byte 10 (line ∷ parts) ≡ line ++ (10 ∷ join_with_byte 10 parts)
       join_one line [] some = absurd (cc)
       join_one line (part ∷ parts) some = refl
 
-read_whole : (form : ℕ) (a : Account) → Fits form a → ledger_of (ledger_text form a) ≡ Ok a
+read_whole : (form : ℕ) (a : LedgerAccount) → Fits form a → ledger_of (ledger_text form a) ≡ Ok a
 read_whole form a fit = elim (one_or_two form fit.least fit.most) [
   | inl e ↦ subst (λ f.
       ledger_of (ledger_text f a) ≡ Ok a) (sym e) (whole_back 1 a (in_form_1 a (fit.old e) fit.told fit.ranges) fit.told fit.ranges)
@@ -559,15 +562,15 @@ pub lines_go_on : (bytes : List ℕ) (line : ℕ) → ledger_of bytes ≡ Err li
 unfolding ledger_of ledger_text
 lines_go_on bytes line h small =
     let parts = split 10 bytes in
-    let stop : Stopped parts line = subst (Outcome parts) (fault_is (ledger (start_of bytes)) line h) (bytes_out bytes) in
+    let stop : Stopped parts line = subst (Outcome parts) (fault_is (ledger (ledger_start bytes)) line h) (bytes_out bytes) in
     record {
       lines = stop.before;
       rest = join_with_byte 10 stop.left;
-      other = joined stop.other;
+      other = joined_lines stop.other;
       account = stop.account;
       count = omega (arith, stop.count, small);
       are = clean_front stop.before stop.left (subst (All IsClean) stop.cut (clean_parts bytes));
       front = sym (join_with_byte-slice_split 10 bytes) ∙ ap (join_with_byte 10) stop.cut ∙ join_front stop.before stop.left stop.some;
-      whole = ap ledger_of (sym (flat_map-append ended stop.before stop.other) ∙ ap joined (sym stop.lines))
+      whole = ap ledger_of (sym (flat_map-append ended stop.before stop.other) ∙ ap joined_lines (sym stop.lines))
           ∙ read_whole stop.form stop.account stop.fit;
     }

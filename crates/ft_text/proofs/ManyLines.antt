@@ -3,7 +3,7 @@ use Rattle.std.proofs.Common.{◌≡◌, ℕ, ◌+◌, ◌==◌, false, List, []
 use Rattle.std.proofs.lemmas.Bool.{cond-false}
 use Rattle.std.proofs.lemmas.List.{append-nil, length_push}
 use Rattle.ft_text.specs.LedgerAnswers.{IsAhead, IsLast}
-use Rattle.ft_text.specs.LedgerReading.{Place, lines_from, while_some, many}
+use Rattle.ft_text.specs.LedgerReading.{LedgerPlace, lines_from, while_some, many}
 
 -- values before those that are read
 abbrev pub front : {A : Type 0} → List A → List A × List (List ℕ) → List A × List (List ℕ)
@@ -48,7 +48,7 @@ is_last value moved state last parts here = ap (lines_from value moved state) he
 
 -- these are all
 pub are_all :
-    {S A : Type 0} (value : S → List ℕ → Option A) (moved : S → A → S) (first state : S) (start p : Place) (xs : List A)
+    {S A : Type 0} (value : S → List ℕ → Option A) (moved : S → A → S) (first state : S) (start p : LedgerPlace) (xs : List A)
     → front xs (lines_from value moved state p.left) ≡ lines_from value moved first start.left
     → p.at ≡ start.at + length xs → lines_from value moved state p.left ≡ ([], p.left)
     → many value moved first start ≡ Ok (xs, p)
@@ -59,15 +59,15 @@ are_all value moved first state start p xs read counted over =
     ap (λ r. Ok (r.0, record { at = start.at + length r.0; left = r.1 })) all
     ∙ ap (λ n. Ok (xs, record { at = n; left = p.left })) (sym counted)
 
--- so many were read up to a place
-pub record IsRead {S A : Type 0} (value : S → List ℕ → Option A) (moved : S → A → S) (first state : S) (start p : Place)
+-- that many were read up to a place
+pub record IsRead {S A : Type 0} (value : S → List ℕ → Option A) (moved : S → A → S) (first state : S) (start p : LedgerPlace)
     (xs : List A) : Type 0 where
   pub read : front xs (lines_from value moved state p.left) ≡ lines_from value moved first start.left
   pub count : p.at ≡ start.at + length xs
 
 pub one_more :
-    {S A : Type 0} {value : S → List ℕ → Option A} {moved : S → A → S} {first state : S} {start p : Place} {xs : List A}
-    (after : S) (next : Place) (line : List ℕ) (x : A) (ys : List A) → IsRead value moved first state start p xs
+    {S A : Type 0} {value : S → List ℕ → Option A} {moved : S → A → S} {first state : S} {start p : LedgerPlace} {xs : List A}
+    (after : S) (next : LedgerPlace) (line : List ℕ) (x : A) (ys : List A) → IsRead value moved first state start p xs
     → IsAhead p line next → value state line ≡ Some x → after ≡ moved state x → ys ≡ xs ++ x ∷ []
     → IsRead value moved first after start next ys
 one_more {value = value} {moved = moved} {first = first} {state = state} {start = start} {p = p} {xs = xs} after next
@@ -82,8 +82,8 @@ one_more {value = value} {moved = moved} {first = first} {state = state} {start 
     }
 
 pub none_more :
-    {S A : Type 0} {value : S → List ℕ → Option A} {moved : S → A → S} {first state : S} {start p : Place} {xs : List A}
-    (next : Place) (line : List ℕ) → IsRead value moved first state start p xs
+    {S A : Type 0} {value : S → List ℕ → Option A} {moved : S → A → S} {first state : S} {start p : LedgerPlace} {xs : List A}
+    (next : LedgerPlace) (line : List ℕ) → IsRead value moved first state start p xs
     → IsAhead p line next → value state line ≡ None → many value moved first start ≡ Ok (xs, p)
 none_more {value = value} {moved = moved} {first = first} {state = state} {start = start} {p = p} {xs = xs} next line
     so_far ahead said =
@@ -91,7 +91,7 @@ none_more {value = value} {moved = moved} {first = first} {state = state} {start
     (stops value moved state line next.left p.left ahead.parts ahead.more said)
 
 pub no_line :
-    {S A : Type 0} {value : S → List ℕ → Option A} {moved : S → A → S} {first state : S} {start p : Place} {xs : List A}
+    {S A : Type 0} {value : S → List ℕ → Option A} {moved : S → A → S} {first state : S} {start p : LedgerPlace} {xs : List A}
     → IsRead value moved first state start p xs → IsLast p → many value moved first start ≡ Ok (xs, p)
 no_line {value = value} {moved = moved} {first = first} {state = state} {start = start} {p = p} {xs = xs} so_far last =
     are_all value moved first state start p xs so_far.read so_far.count (is_last value moved state last.0 p.left last.1)

@@ -23,7 +23,7 @@ named_by_length [] name = refl
 named_by_length (row ∷ rows) name =
     kept name row (filter (λ r. length r.0 == length name) rows) rows (length row.0 == length name) refl (named_by_length rows name)
 
--- among the names of so many letters
+-- among the names of that many letters
 pub among_its_length : (n : ℕ) (name : List ℕ) → length name ≡ n
     → named (filter (λ row. length row.0 == n) readings) name ≡ named readings name
 among_its_length n name is = ap (λ k. named (filter (λ row. length row.0 == k) readings) name) (sym is) ∙ named_by_length readings name

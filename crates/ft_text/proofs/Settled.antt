@@ -3,56 +3,57 @@ use Rattle.std.proofs.Common.{◌≡◌, ℕ, suc, ◌+◌, ◌<◌, ◌≤◌, 
 use Rattle.std.proofs.lemmas.Bool.{cond_both, cond-false, ne_eqb}
 use Rattle.std.proofs.lemmas.Bool.{and_from}
 use Rattle.std.proofs.lemmas.List.Elements.{All-head, All-tail}
-use Rattle.ft_text.specs.Record.{Account}
-use Rattle.ft_text.specs.Ledger.{joined}
+use Rattle.ft_text.specs.Record.{LedgerAccount}
+use Rattle.ft_text.specs.Ledger.{joined_lines}
 use Rattle.ft_text.specs.LedgerWords.{said, head, play, entry, refusal, tick, hand, saved, end}
 use Rattle.ft_text.specs.LedgerExact.{AreLines, WrongLineSettles}
 use Rattle.ft_text.proofs.Cuts.{some_part}
 use Rattle.ft_text.proofs.SplitsBack.{split, split_at, avoids}
-use Rattle.ft_text.specs.LedgerReading.{lines_of, ledger, ledger_of, value_only, Place, Reading, line_number, one_line, line_at, line_or_wrong, lines_from, while_some, also, many, maybe_line, none_or, is_end, over, follow, ◌>>=◌}
+use Rattle.ft_text.specs.LedgerReading.{lines_of, ledger, ledger_of, ledger_value, LedgerPlace, LinesReading, line_number, one_line, line_at, line_or_wrong, lines_from, while_some, also, many, maybe_line, none_or, is_end, over, follow, ◌>>=◌}
 use Rattle.ft_text.proofs.LedgerPartsBack.{at_place, some_behind}
 
--- a fault is told behind the place, and a reading goes on from there
-abbrev pub GoesOn : {A : Type 0} → ℕ → Result (A × Place) ℕ → Type 0
+-- a fault is answered behind the place, and a reading goes on from there
+abbrev pub GoesOn : {A : Type 0} → ℕ → Result (A × LedgerPlace) ℕ → Type 0
 GoesOn at (Ok read) = at ≤ (read.1).at
 GoesOn at (Err m) = line_number at ≤ m
 
 -- at a place from which there are k lines to the end of those that are shared
-abbrev pub IsSettled : {A : Type 0} → ℕ → List (List ℕ) → List (List ℕ) → Result (A × Place) ℕ → Result (A × Place) ℕ → Type 0
+abbrev pub IsSettled : {A : Type 0} → ℕ → List (List ℕ) → List (List ℕ) → Result (A × LedgerPlace) ℕ → Result (A × LedgerPlace) ℕ → Type 0
 IsSettled {A} k suf other (Ok read) r =
     ((mid : List (List ℕ)) × (read.1 ≡ at_place (read.1).at (mid ++ suf)) × ((read.1).at + length mid ≡ k)
     × (r ≡ Ok (read.0, at_place (read.1).at (mid ++ other))))
     ⊎ (k ≤ (read.1).at)
 IsSettled {A} k suf other (Err m) r = m ≡ k → r ≡ Err k
 
-pub record Settles {A : Type 0} (reading : Reading A) : Type 0 where
-  pub on : (p : Place) → GoesOn p.at (reading p)
+pub record Settles {A : Type 0} (reading : LinesReading A) : Type 0 where
+  pub on : (p : LedgerPlace) → GoesOn p.at (reading p)
   pub same : (k : ℕ) → k < 4294967295 → (suf other : List (List ℕ)) → (length suf == 0) ≡ false → (length other == 0) ≡ false
       → (at : ℕ) (pre : List (List ℕ)) → at + length pre ≡ k
       → IsSettled k suf other (reading (at_place at (pre ++ suf))) (reading (at_place at (pre ++ other)))
 
--- ---- one reading behind the other
+-- ---- one reading after the other
 
-both_settle : {A B : Type 0} (first : Reading A) (next : A → Reading B) → Settles first → ((x : A) → Settles (next x))
+both_settle : {A B : Type 0} (first : LinesReading A) (next : A → LinesReading B) → Settles first → ((x : A) → Settles (next x))
     → Settles (first >>= next)
 both_settle {A} {B} first next f n = record { on = on; same = same } where
-  on_from : (at : ℕ) (r : Result (A × Place) ℕ) → GoesOn at r → GoesOn at (follow next r)
+  on_from : (at : ℕ) (r : Result (A × LedgerPlace) ℕ) → GoesOn at r → GoesOn at (follow next r)
   on_from at (Err m) h = h
   on_from at (Ok read) h = further at read.1 h (next read.0 read.1) ((n read.0).on read.1) where
-    further : (at : ℕ) (q : Place) → at ≤ q.at → (r : Result (B × Place) ℕ) → GoesOn q.at r → GoesOn at r
+    further : (at : ℕ) (q : LedgerPlace) → at ≤ q.at → (r : Result (B × LedgerPlace) ℕ) → GoesOn q.at r → GoesOn at r
     further at q le (Ok read) h = omega arith
     further at q le (Err m) h = omega arith
 
-  on : (p : Place) → GoesOn p.at (follow next (first p))
+  on : (p : LedgerPlace) → GoesOn p.at (follow next (first p))
   on p = on_from p.at (first p) (f.on p)
 
-  late : (k : ℕ) → k < 4294967295 → (q : Place) → k ≤ q.at → (suf other : List (List ℕ)) (r s : Result (B × Place) ℕ) → GoesOn q.at r
+  late : (k : ℕ) → k < 4294967295 → (q : LedgerPlace) → k ≤ q.at → (suf other : List (List ℕ)) (r s : Result (B × LedgerPlace) ℕ)
+      → GoesOn q.at r
       → IsSettled k suf other r s
   late k small q le suf other (Ok read) s h = inr (omega arith)
   late k small q le suf other (Err m) s h = λ e. absurd (omega arith)
 
   step : (k : ℕ) → k < 4294967295 → (suf other : List (List ℕ)) → (length suf == 0) ≡ false → (length other == 0) ≡ false
-      → (r s : Result (A × Place) ℕ) → IsSettled k suf other r s → IsSettled k suf other (follow next r) (follow next s)
+      → (r s : Result (A × LedgerPlace) ℕ) → IsSettled k suf other r s → IsSettled k suf other (follow next r) (follow next s)
   step k small suf other some more (Err m) s h = λ e. ap (follow next) (h e)
   step k small suf other some more (Ok read) s (inr le) =
       late k small read.1 le suf other (next read.0 read.1) (follow next s) ((n read.0).on read.1)
@@ -73,7 +74,7 @@ both_settle {A} {B} first next f n = record { on = on; same = same } where
 
 -- ---- one line
 
-one_goes_on : {A : Type 0} (value : List ℕ → Option A) (p : Place) → GoesOn p.at (one_line value p)
+one_goes_on : {A : Type 0} (value : List ℕ → Option A) (p : LedgerPlace) → GoesOn p.at (one_line value p)
 unfolding one_line
 one_goes_on {A} value p = go p.left where
   line_go : (rest : List (List ℕ)) (o : Option A) → GoesOn p.at (line_or_wrong p.at rest o)
@@ -88,7 +89,7 @@ one_goes_on {A} value p = go p.left where
 one_settles : {A : Type 0} (value : List ℕ → Option A) → Settles (one_line value)
 unfolding one_line
 one_settles {A} value = record { on = one_goes_on value; same = same } where
-  last : (k : ℕ) → k < 4294967295 → (suf other : List (List ℕ)) (at : ℕ) → at ≡ k → (left : List (List ℕ)) (s : Result (A × Place) ℕ)
+  last : (k : ℕ) → k < 4294967295 → (suf other : List (List ℕ)) (at : ℕ) → at ≡ k → (left : List (List ℕ)) (s : Result (A × LedgerPlace) ℕ)
       → IsSettled k suf other (line_at value at left) s
   last k small suf other at here [] s = λ e. absurd (omega arith)
   last k small suf other at here (line ∷ rest) s =
@@ -151,7 +152,7 @@ lines_shared {S} {A} value moved suf other some more (line ∷ pre) state =
     (subst (λ t. Shared suf other (line ∷ pre) t (while_some left2 (value state line) b)) first
     (shared_step suf other pre line a b (λ x. lines_shared value moved suf other some more pre (moved state x)) (value state line)))
 
-many_of : {A : Type 0} → ℕ → List A × List (List ℕ) → Result (List A × Place) ℕ
+many_of : {A : Type 0} → ℕ → List A × List (List ℕ) → Result (List A × LedgerPlace) ℕ
 many_of at read = Ok (read.0, record { at = at + length read.0; left = read.1 })
 
 many_settled : {A : Type 0} (k at : ℕ) (suf other pre : List (List ℕ)) (t s : List A × List (List ℕ)) → at + length pre ≡ k
@@ -175,11 +176,12 @@ many_settles value moved state = record {
 maybe_settles : {A : Type 0} (value : List ℕ → Option A) → Settles (maybe_line value)
 unfolding maybe_line one_line
 maybe_settles {A} value = record { on = λ p. on p (one_line value p) (one_goes_on value p); same = same } where
-  on : (p : Place) (r : Result (A × Place) ℕ) → GoesOn p.at r → GoesOn p.at (none_or p r)
+  on : (p : LedgerPlace) (r : Result (A × LedgerPlace) ℕ) → GoesOn p.at r → GoesOn p.at (none_or p r)
   on p (Ok read) h = h
   on p (Err m) h = omega arith
 
-  last : (k : ℕ) (suf other : List (List ℕ)) (p : Place) → p.at ≡ k → (r : Result (A × Place) ℕ) (s : Result (Option A × Place) ℕ)
+  last : (k : ℕ) (suf other : List (List ℕ)) (p : LedgerPlace) → p.at ≡ k
+      → (r : Result (A × LedgerPlace) ℕ) (s : Result (Option A × LedgerPlace) ℕ)
       → GoesOn p.at r → IsSettled k suf other (none_or p r) s
   last k suf other p here (Ok read) s h = inr (omega arith)
   last k suf other p here (Err m) s h = inr (omega arith)
@@ -218,7 +220,7 @@ not_the_end (b ∷ line) rest some = refl
 over_settles : {A : Type 0} (x : A) → Settles (over x)
 unfolding over
 over_settles {A} x = record { on = on; same = same } where
-  on : (p : Place) → GoesOn p.at (over x p)
+  on : (p : LedgerPlace) → GoesOn p.at (over x p)
   on p = cond_both (is_end p.left) (Ok (x, p)) (Err (line_number p.at)) (GoesOn p.at) (λ so. omega arith) (λ more. omega arith)
 
   same : (k : ℕ) → k < 4294967295 → (suf other : List (List ℕ)) → (length suf == 0) ≡ false → (length other == 0) ≡ false
@@ -228,7 +230,7 @@ over_settles {A} x = record { on = on; same = same } where
       cond_both (is_end suf) (Ok (x, at_place at suf)) (Err (line_number at)) (λ r. IsSettled k suf other r (over x (at_place at other)))
       (λ so. inr (omega arith)) (λ no. λ e. absurd (omega arith))
   same k small suf other some more at (line ∷ pre) here =
-      let wrong : Result (A × Place) ℕ = Err (line_number at) in
+      let wrong : Result (A × LedgerPlace) ℕ = Err (line_number at) in
       let a : wrong ≡ over x (at_place at (line ∷ (pre ++ suf))) =
       sym (cond-false (is_end (line ∷ (pre ++ suf))) (Ok (x, at_place at (line ∷ (pre ++ suf)))) wrong
       (not_the_end line (pre ++ suf) (some_behind pre suf some))) in
@@ -262,12 +264,12 @@ ledger_settles =
       saved = song;
     })))))))))
 
-settled_fault : {A : Type 0} (k : ℕ) (suf other : List (List ℕ)) (r s : Result (A × Place) ℕ) → IsSettled k suf other r s → r ≡ Err k
+settled_fault : {A : Type 0} (k : ℕ) (suf other : List (List ℕ)) (r s : Result (A × LedgerPlace) ℕ) → IsSettled k suf other r s → r ≡ Err k
     → s ≡ Err k
 settled_fault k suf other (Ok read) s h e = absurd (cc)
 settled_fault k suf other (Err m) s h e = let same : m ≡ k = cc in h same
 
-pub fault_is : (r : Result (Account × Place) ℕ) (k : ℕ) → value_only r ≡ Err k → r ≡ Err k
+pub fault_is : (r : Result (LedgerAccount × LedgerPlace) ℕ) (k : ℕ) → ledger_value r ≡ Err k → r ≡ Err k
 fault_is (Ok read) k h = absurd (cc)
 fault_is (Err m) k h = let same : m ≡ k = cc in ap Err same
 
@@ -278,12 +280,12 @@ clean_line (b ∷ line) all =
     and_from (not (b == 10)) (avoids 10 line) (ap not (ne_eqb b 10 (All-head Other b line all)))
     (clean_line line (All-tail Other b line all))
 
-split_front : (lines : List (List ℕ)) (rest : List ℕ) → AreLines lines → split 10 (joined lines ++ rest) ≡ lines ++ split 10 rest
+split_front : (lines : List (List ℕ)) (rest : List ℕ) → AreLines lines → split 10 (joined_lines lines ++ rest) ≡ lines ++ split 10 rest
 split_front [] rest are = refl
 split_front (line ∷ lines) rest are =
     let IsLine : List ℕ → Type 0 = λ line. All (λ b. b ≢ 10) line in
-    ap (split 10) (append_assoc (line ++ 10 ∷ []) (joined lines) rest ∙ append_assoc line (10 ∷ []) (joined lines ++ rest))
-    ∙ split_at 10 line (joined lines ++ rest) (clean_line line (All-head IsLine line lines are))
+    ap (split 10) (append_assoc (line ++ 10 ∷ []) (joined_lines lines) rest ∙ append_assoc line (10 ∷ []) (joined_lines lines ++ rest))
+    ∙ split_at 10 line (joined_lines lines ++ rest) (clean_line line (All-head IsLine line lines are))
     ∙ ap (λ parts. line ∷ parts) (split_front lines rest (All-tail IsLine line lines are))
 
 pub wrong_line_settles : WrongLineSettles
@@ -295,8 +297,8 @@ wrong_line_settles lines rest other are small wrong =
     let counted : 0 + k ≡ k = omega arith in
     let here : ledger (at_place 0 (lines ++ suf)) ≡ Err k =
     ap (λ left. ledger (at_place 0 left)) (sym (split_front lines rest are))
-    ∙ fault_is (ledger (at_place 0 (split 10 (joined lines ++ rest)))) k wrong in
+    ∙ fault_is (ledger (at_place 0 (split 10 (joined_lines lines ++ rest)))) k wrong in
     let there : ledger (at_place 0 (lines ++ suf2)) ≡ Err k =
     settled_fault k suf suf2 (ledger (at_place 0 (lines ++ suf))) (ledger (at_place 0 (lines ++ suf2)))
     (ledger_settles.same k small suf suf2 (some_part 10 rest) (some_part 10 other) 0 lines counted) here in
-    ap (λ left. value_only (ledger (at_place 0 left))) (split_front lines other are) ∙ ap value_only there
+    ap (λ left. ledger_value (ledger (at_place 0 left))) (split_front lines other are) ∙ ap ledger_value there

@@ -1,10 +1,10 @@
--- Texts cut at a byte that stands between their parts.
+-- Texts cut at a byte that is between their parts.
 use Rattle.std.proofs.Common.{◌≡◌, ℕ, ◌==◌, Bool, true, cond, not, ◌&&◌, List, [], ◌∷◌, ◌++◌, refl, ap, ◌∙◌, append_assoc}
 use Rattle.std.specs.List.{list_all, slice_split, onto_first}
 use Rattle.std.proofs.lemmas.List.{append-nil}
 use Rattle.std.proofs.lemmas.Bool.{and_from, and_parts, not-true, eq-eqb}
 use Rattle.ft_text.specs.Texts.{spaced, text_of_words}
-use Rattle.ft_text.specs.Ledger.{joined}
+use Rattle.ft_text.specs.Ledger.{joined_lines}
 use Rattle.ft_text.proofs.PlainBytes.{is_plain, plain, all_plain}
 
 abbrev pub split : ℕ → List ℕ → List (List ℕ)
@@ -72,12 +72,12 @@ split_before w (v ∷ ws) text is all =
 
 -- ---- lines
 
-pub split_lines : (lines : List (List ℕ)) → list_all (avoids 10) lines ≡ true → split 10 (joined lines) ≡ lines ++ [] ∷ []
+pub split_lines : (lines : List (List ℕ)) → list_all (avoids 10) lines ≡ true → split 10 (joined_lines lines) ≡ lines ++ [] ∷ []
 split_lines [] none = refl
 split_lines (line ∷ lines) none =
     let parts = and_parts (avoids 10 line) (list_all (avoids 10) lines) none in
-    ap (split 10) (append_assoc line (10 ∷ []) (joined lines))
-    ∙ split_at 10 line (joined lines) parts.0
+    ap (split 10) (append_assoc line (10 ∷ []) (joined_lines lines))
+    ∙ split_at 10 line (joined_lines lines) parts.0
     ∙ ap (λ rest. line ∷ rest) (split_lines lines parts.1)
 
 -- words of a line have no LF

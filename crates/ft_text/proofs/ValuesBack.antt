@@ -18,16 +18,16 @@ use Rattle.std.proofs.lemmas.List.Elements.{All-nil, All-cons, All-head, All-tai
 use Rattle.hex.specs.Hex.{encode_lower, encode_with, lower_digits, hex_digit_value}
 use Rattle.hex.proofs.HexLemmas.{decode_of-encode_lower, length-encode_with, IsDigits-lower_digits}
 use Rattle.ft_text.specs.Words.{frame_bytes}
-use Rattle.ft_text.specs.Values.{number_of, signed_of, is_within, name_of, filled, bytes_of, lower_only, doubles, before, few, doubles_if, frames_of}
+use Rattle.ft_text.specs.Values.{number_of, signed_of, is_within, name_of, filled, bytes_of, lower_only, doubles, frame_before, pasted_frames, doubles_if, frames_of}
 use Rattle.ft_text.specs.Reading.{word}
-use Rattle.ft_text.specs.Edits.{u8, u16, u32, i8, i16, name_20, name_22, wide_frames}
+use Rattle.ft_text.specs.Edits.{u8, u16, u32, i8, i16, name_20, name_22, frames_argument}
 use Rattle.ft_text.specs.ReadBack.{IsName}
 use Rattle.ft_text.proofs.Decimals.{own, signed_below_zero, signed_from_zero, negated}
 use Rattle.ft_text.proofs.WordsBack.{is_solid, IsWord, Takes, word_taken}
 
 -- ---- numbers
 
--- what stands in a word's place is the number, where the word is written as that number is
+-- what is in a word's place is the number, where the word is written as that number is
 number_at : (most v : ℕ) (w : List ℕ) → w ≡ decimal v → v ≤ most → cond (bytes_eq w (decimal v) && nat_le v most) (Some v) None ≡ Some v
 number_at most v w e within = cond-true (bytes_eq w (decimal v) && nat_le v most) (Some v) None
     (and_from _ _ ((bytes_eq-Decides w (decimal v)).1 e) (le-leb v most within))
@@ -201,20 +201,20 @@ doubles_back (frame ∷ frames) all =
     let small : n < 2 ^ 16 = omega (arith, Fits-of_z {w = w16} {z = frame} fits) in
     let same : cast_signed w16 (n / 256 % 256 * 256 + n % 256) ≡ frame =
     ap (cast_signed w16) (from_be_bytes-to_be_bytes_2 n small) ∙ to_z-of_z w16 frame fits in
-    ap (before (cast_signed w16 (n / 256 % 256 * 256 + n % 256))) (doubles_back frames (All-tail (FitsSigned w16) frame frames all))
+    ap (frame_before (cast_signed w16 (n / 256 % 256 * 256 + n % 256))) (doubles_back frames (All-tail (FitsSigned w16) frame frames all))
     ∙ ap (λ x. Some (x ∷ frames)) same
 
 frames_back : (frames : List ℤ) → 1 ≤ length frames → length frames ≤ 256 → All (FitsSigned w16) frames
     → frames_of (encode_lower (frame_bytes frames)) ≡ Some frames
 frames_back frames some few_enough all =
-    ap (λ o. few (doubles_if o)) (bytes_back (frame_bytes frames) (bytes_of_frames frames))
-    ∙ (ap few (doubles_back frames all)
+    ap (λ o. pasted_frames (doubles_if o)) (bytes_back (frame_bytes frames) (bytes_of_frames frames))
+    ∙ (ap pasted_frames (doubles_back frames all)
     ∙ cond-true (nat_le 1 (length frames) && nat_le (length frames) 256) (Some frames) None
     (and_from _ _ (le-leb 1 (length frames) some) (le-leb (length frames) 256 few_enough)))
 
 pub frames_taken : (frames : List ℤ) → 1 ≤ length frames → length frames ≤ 256 → All (FitsSigned w16) frames
-    → Takes wide_frames frames (32 ∷ encode_lower (frame_bytes frames)) 1025
-unfolding wide_frames
+    → Takes frames_argument frames (32 ∷ encode_lower (frame_bytes frames)) 1025
+unfolding frames_argument
 frames_taken frames some few_enough all =
     let l = length_of_frames frames in
     word_taken frames_of frames (encode_lower (frame_bytes frames)) 1025

@@ -11,7 +11,7 @@ use Rattle.std.proofs.Math.Facts.{sfits_to_z}
 use Rattle.hex.specs.Hex.{decode_of, encode_lower}
 use Rattle.hex.specs.declared.error.FromHexError.{FromHexError}
 use Rattle.hex.proofs.HexLemmas.{decode_of-ok}
-use Rattle.ft_text.specs.Values.{signed_of, is_within, name_of, filled, bytes_of, lower_only, doubles, before, few, doubles_if, frames_of}
+use Rattle.ft_text.specs.Values.{signed_of, is_within, name_of, filled, bytes_of, lower_only, doubles, frame_before, pasted_frames, doubles_if, frames_of}
 use Rattle.ft_text.specs.ReadBack.{IsName}
 
 -- ---- numbers with a sign
@@ -96,7 +96,7 @@ name_is size w name h = filled_is size name (bytes_of w) (bytes_are w) h
 
 -- ---- frames
 
-before_is : (frame : ℤ) (o : Option (List ℤ)) (frames : List ℤ) → before frame o ≡ Some frames
+before_is : (frame : ℤ) (o : Option (List ℤ)) (frames : List ℤ) → frame_before frame o ≡ Some frames
     → (others : List ℤ) × (o ≡ Some others) × (frame ∷ others ≡ frames)
 before_is frame None frames h = absurd (cc)
 before_is frame (Some others) frames h = let same : frame ∷ others ≡ frames = cc in (others, refl, same)
@@ -120,7 +120,7 @@ doubles_if_fit None frames each h = absurd (cc)
 doubles_if_fit (Some bytes) frames each h = doubles_fit bytes frames (each bytes refl) h
 
 few_are : (o : Option (List ℤ)) (frames : List ℤ) → ((found : List ℤ) → o ≡ Some found → All (FitsSigned w16) found)
-    → few o ≡ Some frames → (1 ≤ length frames) × (length frames ≤ 256) × All (FitsSigned w16) frames
+    → pasted_frames o ≡ Some frames → (1 ≤ length frames) × (length frames ≤ 256) × All (FitsSigned w16) frames
 few_are None frames each h = absurd (cc)
 few_are (Some found) frames each h = elim (cases_Bool (nat_le 1 (length found) && nat_le (length found) 256)) [
   | inl so ↦

@@ -9,30 +9,31 @@ use Rattle.ft_types.specs.declared.tick_report.TickReport.{TickReport}
 use Rattle.ft_text.specs.declared.record.Run.{Run}
 use Rattle.ft_text.specs.declared.record.HandEnd.{HandEnd}
 use Rattle.ft_text.specs.declared.record.SavedLine.{SavedLine}
-use Rattle.ft_text.specs.Record.{Account}
-use Rattle.ft_text.specs.Ledger.{head_line, play_line, entry_line, refusal_line, tick_line, tick_lines, hand_line, saved_line, saved_lines, end_line, ledger_lines, ledger_text, joined}
+use Rattle.ft_text.specs.Record.{LedgerAccount}
+use Rattle.ft_text.specs.Ledger.{head_line, play_line, entry_line, refusal_line, tick_line, tick_lines, hand_line, saved_line, saved_lines, end_line, ledger_lines, ledger_text, joined_lines}
 use Rattle.ft_text.specs.LedgerWords.{said, head, play, entry, refusal, tick, hand, saved, end}
-use Rattle.ft_text.specs.LedgerReading.{Place, Reading, line_number, one_line, line_at, line_or_wrong, lines_from, while_some, also, many, lines_of, maybe_line, none_or, is_end, over, follow, ◌>>=◌, ledger, value_only, start_of, ledger_of}
+use Rattle.ft_text.specs.LedgerReading.{LedgerPlace, LinesReading, line_number, one_line, line_at, line_or_wrong, lines_from, while_some, also, many, lines_of, maybe_line, none_or, is_end, over, follow, ◌>>=◌, ledger, ledger_value, ledger_start, ledger_of}
 use Rattle.ft_text.specs.LedgerExact.{IsLedgerOf}
 use Rattle.ft_text.proofs.SplitsBack.{split}
 use Rattle.ft_text.proofs.LinesExact.{head_line_is, play_line_is, entry_line_is, refusal_line_is, tick_line_is, hand_line_is, saved_line_is, end_line_is}
 
 -- ---- one line
 
-pub record OneLine {A : Type 0} (value : List ℕ → Option A) (left : List (List ℕ)) (x : A) (q : Place) : Type 0 where
+pub record OneLine {A : Type 0} (value : List ℕ → Option A) (left : List (List ℕ)) (x : A) (q : LedgerPlace) : Type 0 where
   pub line : List ℕ
   pub parts : left ≡ line ∷ q.left
   pub says : value line ≡ Some x
 
-pub pair_ok : {A : Type 0} (x y : A) (p q : Place) → ◌≡◌ {A = Result (A × Place) ℕ} (Ok (x, p)) (Ok (y, q)) → (x ≡ y) × (p ≡ q)
+pub pair_ok : {A : Type 0} (x y : A) (p q : LedgerPlace) → ◌≡◌ {A = Result (A × LedgerPlace) ℕ} (Ok (x, p)) (Ok (y, q)) → (x ≡ y) × (p ≡ q)
 pair_ok {A} x y p q h =
-    let e : ◌≡◌ {A = A × Place} (x, p) (y, q) = cc in
+    let e : ◌≡◌ {A = A × LedgerPlace} (x, p) (y, q) = cc in
     (ap (λ r. r.0) e, ap (λ r. r.1) e)
 
-not_both : {A : Type 0} {P : Type 0} (n : ℕ) (x : A × Place) → ◌≡◌ {A = Result (A × Place) ℕ} (Err n) (Ok x) → P
+not_both : {A : Type 0} {P : Type 0} (n : ℕ) (x : A × LedgerPlace) → ◌≡◌ {A = Result (A × LedgerPlace) ℕ} (Err n) (Ok x) → P
 not_both n x h = absurd (cc)
 
-pub one_exact : {A : Type 0} (value : List ℕ → Option A) (p q : Place) (x : A) → one_line value p ≡ Ok (x, q) → OneLine value p.left x q
+pub one_exact : {A : Type 0} (value : List ℕ → Option A) (p q : LedgerPlace) (x : A) → one_line value p ≡ Ok (x, q)
+    → OneLine value p.left x q
 unfolding one_line
 one_exact {A} value p q x h = go p.left h where
   line_go : (line : List ℕ) (rest : List (List ℕ)) (o : Option A) → value line ≡ o → line_or_wrong p.at rest o ≡ Ok (x, q)
@@ -99,7 +100,7 @@ lines_exact {S} {A} value moved line exact (l ∷ parts) state xs rest h =
 
 pub many_exact : {S A : Type 0} (value : S → List ℕ → Option A) (moved : S → A → S) (line : S → A → List ℕ)
     → ((s : S) (l : List ℕ) (x : A) → value s l ≡ Some x → l ≡ line s x)
-    → (state : S) (p q : Place) (xs : List A) → many value moved state p ≡ Ok (xs, q) → p.left ≡ written line moved state xs ++ q.left
+    → (state : S) (p q : LedgerPlace) (xs : List A) → many value moved state p ≡ Ok (xs, q) → p.left ≡ written line moved state xs ++ q.left
 unfolding many
 many_exact value moved line exact state p q xs h =
     let read = lines_from value moved state p.left in
@@ -122,11 +123,11 @@ written_ticks n (t ∷ ticks) = ap (λ r. tick_line n t ∷ r) (written_ticks (s
 
 -- ---- the song that was saved, and the end
 
-saved_part_is : (form : ℕ) (p q : Place) (s : Option SavedLine) → maybe_line (said (saved form)) p ≡ Ok (s, q)
+saved_part_is : (form : ℕ) (p q : LedgerPlace) (s : Option SavedLine) → maybe_line (said (saved form)) p ≡ Ok (s, q)
     → p.left ≡ saved_lines s ++ q.left
 unfolding maybe_line
 saved_part_is form p q s h =
-    let go : (r : Result (SavedLine × Place) ℕ) → one_line (said (saved form)) p ≡ r → none_or p r ≡ Ok (s, q)
+    let go : (r : Result (SavedLine × LedgerPlace) ℕ) → one_line (said (saved form)) p ≡ r → none_or p r ≡ Ok (s, q)
     → p.left ≡ saved_lines s ++ q.left =
     λ r. elim r as (λ r. one_line (said (saved form)) p ≡ r → none_or p r ≡ Ok (s, q) → p.left ≡ saved_lines s ++ q.left) [
       | Ok read ↦ λ e k.
@@ -149,26 +150,27 @@ is_the_end (part ∷ next ∷ parts) h = none_is_behind part next parts h where
   none_is_behind [] next parts h = absurd (cc)
   none_is_behind (b ∷ part) next parts h = absurd (cc)
 
-over_exact : (x y : Account) (p q : Place) → over x p ≡ Ok (y, q) → (x ≡ y) × (p.left ≡ [] ∷ [])
+over_exact : (x y : LedgerAccount) (p q : LedgerPlace) → over x p ≡ Ok (y, q) → (x ≡ y) × (p.left ≡ [] ∷ [])
 unfolding over
 over_exact x y p q h = elim (cases_Bool (is_end p.left)) [
   | inl so ↦ ((pair_ok x y p q (sym (cond-true (is_end p.left) (Ok (x, p)) (Err (line_number p.at)) so) ∙ h)).0, is_the_end p.left so)
   | inr other ↦ not_both (line_number p.at) (y, q) (sym (cond-false (is_end p.left) (Ok (x, p)) (Err (line_number p.at)) other) ∙ h)
 ]
 
--- ---- one part behind the other
+-- ---- one part after the other
 
-pub record Followed {A B : Type 0} (r : Result (A × Place) ℕ) (next : A → Reading B) (y : B × Place) : Type 0 where
+pub record Followed {A B : Type 0} (r : Result (A × LedgerPlace) ℕ) (next : A → LinesReading B) (y : B × LedgerPlace) : Type 0 where
   pub x : A
-  pub place : Place
+  pub place : LedgerPlace
   pub first : r ≡ Ok (x, place)
   pub behind : next x place ≡ Ok y
 
-followed : {A B : Type 0} (r : Result (A × Place) ℕ) (next : A → Reading B) (y : B × Place) → follow next r ≡ Ok y → Followed r next y
+followed : {A B : Type 0} (r : Result (A × LedgerPlace) ℕ) (next : A → LinesReading B) (y : B × LedgerPlace) → follow next r ≡ Ok y
+    → Followed r next y
 followed (Ok read) next y h = record { x = read.0; place = read.1; first = refl; behind = h }
 followed (Err n) next y h = not_both n y h
 
-pub valued : (r : Result (Account × Place) ℕ) (a : Account) → value_only r ≡ Ok a → (q : Place) × (r ≡ Ok (a, q))
+pub valued : (r : Result (LedgerAccount × LedgerPlace) ℕ) (a : LedgerAccount) → ledger_value r ≡ Ok a → (q : LedgerPlace) × (r ≡ Ok (a, q))
 valued (Ok read) a h =
     let same : read.0 ≡ a = cc in
     (read.1, ap (λ x. Ok (x, read.1)) same)
@@ -176,67 +178,67 @@ valued (Err n) a h = absurd (cc)
 
 -- ---- lines with their LFs
 
-pub join_lines : (lines : List (List ℕ)) → join_with_byte 10 (lines ++ [] ∷ []) ≡ joined lines
+pub join_lines : (lines : List (List ℕ)) → join_with_byte 10 (lines ++ [] ∷ []) ≡ joined_lines lines
 join_lines [] = refl
 join_lines (l ∷ []) = sym (append-nil (l ++ 10 ∷ []))
-join_lines (l ∷ m ∷ lines) = ap (λ t. l ++ (10 ∷ t)) (join_lines (m ∷ lines)) ∙ sym (append_assoc l (10 ∷ []) (joined (m ∷ lines)))
+join_lines (l ∷ m ∷ lines) = ap (λ t. l ++ (10 ∷ t)) (join_lines (m ∷ lines)) ∙ sym (append_assoc l (10 ∷ []) (joined_lines (m ∷ lines)))
 
 regroup : (a b c d e f g t : List (List ℕ)) → a ++ b ++ c ++ d ++ e ++ f ++ g ++ t ≡ a ++ (b ++ (c ++ (d ++ (e ++ (f ++ (g ++ t))))))
 regroup a b c d e f g t = simp append_assoc
 
-text_is : (form : ℕ) (a : Account) (bytes : List ℕ) → split 10 bytes ≡ ledger_lines form a ++ [] ∷ [] → bytes ≡ ledger_text form a
+text_is : (form : ℕ) (a : LedgerAccount) (bytes : List ℕ) → split 10 bytes ≡ ledger_lines form a ++ [] ∷ [] → bytes ≡ ledger_text form a
 unfolding ledger_text
 text_is form a bytes e = sym (join_with_byte-slice_split 10 bytes) ∙ ap (join_with_byte 10) e ∙ join_lines (ledger_lines form a)
 
 -- ---- from each part to the end
 
-abbrev pub made_of : Run → List Entry → List Refusal → List TickReport → List HandEnd → Option SavedLine → ℕ → Account
+abbrev pub made_of : Run → List Entry → List Refusal → List TickReport → List HandEnd → Option SavedLine → ℕ → LedgerAccount
 made_of run es rs ts hs s status =
     record { run = record run { status = status }; entries = es; refusals = rs; ticks = ts; hands = hs; saved = s }
 
-abbrev pub from_end : ℕ → Run → List Entry → List Refusal → List TickReport → List HandEnd → Option SavedLine → Reading Account
+abbrev pub from_end : ℕ → Run → List Entry → List Refusal → List TickReport → List HandEnd → Option SavedLine → LinesReading LedgerAccount
 from_end form run es rs ts hs s = one_line (said (end form (length ts))) >>= (λ status. over (made_of run es rs ts hs s status))
 
-abbrev pub from_saved : ℕ → Run → List Entry → List Refusal → List TickReport → List HandEnd → Reading Account
+abbrev pub from_saved : ℕ → Run → List Entry → List Refusal → List TickReport → List HandEnd → LinesReading LedgerAccount
 from_saved form run es rs ts hs = maybe_line (said (saved form)) >>= from_end form run es rs ts hs
 
-abbrev pub from_hands : ℕ → Run → List Entry → List Refusal → List TickReport → Reading Account
+abbrev pub from_hands : ℕ → Run → List Entry → List Refusal → List TickReport → LinesReading LedgerAccount
 from_hands form run es rs ts = many (λ least. said (hand least)) (λ least end. end.hand + 1) 0 >>= from_saved form run es rs ts
 
-abbrev pub from_ticks : ℕ → Run → List Entry → List Refusal → Reading Account
+abbrev pub from_ticks : ℕ → Run → List Entry → List Refusal → LinesReading LedgerAccount
 from_ticks form run es rs = many (λ n. said (tick n)) (λ n x. suc n) 0 >>= from_hands form run es rs
 
-abbrev pub from_refusals : ℕ → Run → List Entry → Reading Account
+abbrev pub from_refusals : ℕ → Run → List Entry → LinesReading LedgerAccount
 from_refusals form run es = lines_of (said (refusal form)) >>= from_ticks form run es
 
-abbrev pub from_entries : ℕ → Run → Reading Account
+abbrev pub from_entries : ℕ → Run → LinesReading LedgerAccount
 from_entries form run = lines_of (said (entry form)) >>= from_refusals form run
 
-abbrev pub from_play : ℕ → Reading Account
+abbrev pub from_play : ℕ → LinesReading LedgerAccount
 from_play form = one_line (said play) >>= from_entries form
 
 -- the lines of an account from each part on
-abbrev last_lines : Account → List (List ℕ)
+abbrev last_lines : LedgerAccount → List (List ℕ)
 last_lines a = end_line a.run.status (length a.ticks) ∷ [] ∷ []
 
-abbrev saved_on : Account → List (List ℕ)
+abbrev saved_on : LedgerAccount → List (List ℕ)
 saved_on a = saved_lines a.saved ++ last_lines a
 
-abbrev hands_on : Account → List (List ℕ)
+abbrev hands_on : LedgerAccount → List (List ℕ)
 hands_on a = map hand_line a.hands ++ saved_on a
 
-abbrev ticks_on : Account → List (List ℕ)
+abbrev ticks_on : LedgerAccount → List (List ℕ)
 ticks_on a = tick_lines 0 a.ticks ++ hands_on a
 
-abbrev refusals_on : ℕ → Account → List (List ℕ)
+abbrev refusals_on : ℕ → LedgerAccount → List (List ℕ)
 refusals_on form a = map (refusal_line form) a.refusals ++ ticks_on a
 
-abbrev entries_on : ℕ → Account → List (List ℕ)
+abbrev entries_on : ℕ → LedgerAccount → List (List ℕ)
 entries_on form a = map entry_line a.entries ++ refusals_on form a
 
 -- these parts are those of the account
 pub record Made (run : Run) (es : List Entry) (rs : List Refusal) (ts : List TickReport) (hs : List HandEnd) (s : Option SavedLine)
-    (a : Account) : Type 0 where
+    (a : LedgerAccount) : Type 0 where
   pub asked : record run { status = a.run.status } ≡ a.run
   pub entries : es ≡ a.entries
   pub refusals : rs ≡ a.refusals
@@ -245,7 +247,7 @@ pub record Made (run : Run) (es : List Entry) (rs : List Refusal) (ts : List Tic
   pub saved : s ≡ a.saved
 
 made_is : (run : Run) (es : List Entry) (rs : List Refusal) (ts : List TickReport) (hs : List HandEnd) (s : Option SavedLine) (status : ℕ)
-    (a : Account)
+    (a : LedgerAccount)
     → made_of run es rs ts hs s status ≡ a → (status ≡ a.run.status) × Made run es rs ts hs s a
 made_is run es rs ts hs s status a e =
     let same : status ≡ a.run.status = ap (λ a. a.run.status) e in (
@@ -261,9 +263,10 @@ made_is run es rs ts hs s status a e =
     )
 
 end_exact : (form : ℕ) (run : Run) (es : List Entry) (rs : List Refusal) (ts : List TickReport) (hs : List HandEnd) (s : Option SavedLine)
-    (p q : Place) (a : Account) → from_end form run es rs ts hs s p ≡ Ok (a, q) → (p.left ≡ last_lines a) × Made run es rs ts hs s a
+    (p q : LedgerPlace) (a : LedgerAccount) → from_end form run es rs ts hs s p ≡ Ok (a, q) → (p.left ≡ last_lines a)
+    × Made run es rs ts hs s a
 end_exact form run es rs ts hs s p q a h =
-    let y : Account × Place = (a, q) in
+    let y : LedgerAccount × LedgerPlace = (a, q) in
     let k = followed (one_line (said (end form (length ts))) p) (λ status. over (made_of run es rs ts hs s status)) y h in
     let last = over_exact (made_of run es rs ts hs s k.x) a k.place q k.behind in
     let line = one_exact (said (end form (length ts))) p k.place k.x k.first in
@@ -274,9 +277,10 @@ end_exact form run es rs ts hs s p q a h =
     (here ∙ ap (λ n. end_line n (length ts) ∷ [] ∷ []) made.0 ∙ ap (λ ts. end_line a.run.status (length ts) ∷ [] ∷ []) made.1.ticks, made.1)
 
 saved_exact : (form : ℕ) (run : Run) (es : List Entry) (rs : List Refusal) (ts : List TickReport) (hs : List HandEnd)
-    (p q : Place) (a : Account) → from_saved form run es rs ts hs p ≡ Ok (a, q) → (p.left ≡ saved_on a) × Made run es rs ts hs a.saved a
+    (p q : LedgerPlace) (a : LedgerAccount) → from_saved form run es rs ts hs p ≡ Ok (a, q) → (p.left ≡ saved_on a)
+    × Made run es rs ts hs a.saved a
 saved_exact form run es rs ts hs p q a h =
-    let y : Account × Place = (a, q) in
+    let y : LedgerAccount × LedgerPlace = (a, q) in
     let k = followed (maybe_line (said (saved form)) p) (from_end form run es rs ts hs) y h in
     let rest = end_exact form run es rs ts hs k.x k.place q a k.behind in
     let made = rest.1 in (
@@ -286,9 +290,10 @@ saved_exact form run es rs ts hs p q a h =
     )
 
 hands_exact : (form : ℕ) (run : Run) (es : List Entry) (rs : List Refusal) (ts : List TickReport)
-    (p q : Place) (a : Account) → from_hands form run es rs ts p ≡ Ok (a, q) → (p.left ≡ hands_on a) × Made run es rs ts a.hands a.saved a
+    (p q : LedgerPlace) (a : LedgerAccount) → from_hands form run es rs ts p ≡ Ok (a, q) → (p.left ≡ hands_on a)
+    × Made run es rs ts a.hands a.saved a
 hands_exact form run es rs ts p q a h =
-    let y : Account × Place = (a, q) in
+    let y : LedgerAccount × LedgerPlace = (a, q) in
     let k = followed (many (λ least. said (hand least)) (λ least end. end.hand + 1) 0 p) (from_saved form run es rs ts) y h in
     let rest = saved_exact form run es rs ts k.x k.place q a k.behind in
     let made = rest.1 in
@@ -300,9 +305,10 @@ hands_exact form run es rs ts p q a h =
     )
 
 ticks_exact : (form : ℕ) (run : Run) (es : List Entry) (rs : List Refusal)
-    (p q : Place) (a : Account) → from_ticks form run es rs p ≡ Ok (a, q) → (p.left ≡ ticks_on a) × Made run es rs a.ticks a.hands a.saved a
+    (p q : LedgerPlace) (a : LedgerAccount) → from_ticks form run es rs p ≡ Ok (a, q) → (p.left ≡ ticks_on a)
+    × Made run es rs a.ticks a.hands a.saved a
 ticks_exact form run es rs p q a h =
-    let y : Account × Place = (a, q) in
+    let y : LedgerAccount × LedgerPlace = (a, q) in
     let k = followed (many (λ n. said (tick n)) (λ n x. suc n) 0 p) (from_hands form run es rs) y h in
     let rest = hands_exact form run es rs k.x k.place q a k.behind in
     let made = rest.1 in
@@ -313,10 +319,10 @@ ticks_exact form run es rs p q a h =
       record { asked = made.asked; entries = made.entries; refusals = made.refusals; ticks = refl; hands = refl; saved = refl },
     )
 
-refusals_exact : (form : ℕ) (run : Run) (es : List Entry) (p q : Place) (a : Account) → from_refusals form run es p ≡ Ok (a, q)
+refusals_exact : (form : ℕ) (run : Run) (es : List Entry) (p q : LedgerPlace) (a : LedgerAccount) → from_refusals form run es p ≡ Ok (a, q)
     → (p.left ≡ refusals_on form a) × Made run es a.refusals a.ticks a.hands a.saved a
 refusals_exact form run es p q a h =
-    let y : Account × Place = (a, q) in
+    let y : LedgerAccount × LedgerPlace = (a, q) in
     let k = followed (lines_of (said (refusal form)) p) (from_ticks form run es) y h in
     let rest = ticks_exact form run es k.x k.place q a k.behind in
     let made = rest.1 in
@@ -328,10 +334,10 @@ refusals_exact form run es p q a h =
       record { asked = made.asked; entries = made.entries; refusals = refl; ticks = refl; hands = refl; saved = refl },
     )
 
-entries_exact : (form : ℕ) (run : Run) (p q : Place) (a : Account) → from_entries form run p ≡ Ok (a, q)
+entries_exact : (form : ℕ) (run : Run) (p q : LedgerPlace) (a : LedgerAccount) → from_entries form run p ≡ Ok (a, q)
     → (p.left ≡ entries_on form a) × (record run { status = a.run.status } ≡ a.run)
 entries_exact form run p q a h =
-    let y : Account × Place = (a, q) in
+    let y : LedgerAccount × LedgerPlace = (a, q) in
     let k = followed (lines_of (said (entry form)) p) (from_refusals form run) y h in
     let rest = refusals_exact form run k.x k.place q a k.behind in
     let made = rest.1 in
@@ -340,9 +346,10 @@ entries_exact form run p q a h =
     ∙ ap (λ ls. ls ++ k.place.left) (written_map entry_line 0 k.x) in
     (here ∙ ap (λ es. map entry_line es ++ k.place.left) made.entries ∙ ap (λ r. map entry_line a.entries ++ r) rest.0, made.asked)
 
-play_exact : (form : ℕ) (p q : Place) (a : Account) → from_play form p ≡ Ok (a, q) → p.left ≡ play_line a.run ∷ entries_on form a
+play_exact : (form : ℕ) (p q : LedgerPlace) (a : LedgerAccount) → from_play form p ≡ Ok (a, q) → p.left ≡ play_line a.run
+    ∷ entries_on form a
 play_exact form p q a h =
-    let y : Account × Place = (a, q) in
+    let y : LedgerAccount × LedgerPlace = (a, q) in
     let k = followed (one_line (said play) p) (from_entries form) y h in
     let rest = entries_exact form k.x k.place q a k.behind in
     let line = one_exact (said play) p k.place k.x k.first in
@@ -351,19 +358,19 @@ play_exact form p q a h =
 
 -- ---- all
 
-lines_are : (form : ℕ) (a : Account) → head_line form ∷ (play_line a.run ∷ entries_on form a) ≡ ledger_lines form a ++ [] ∷ []
+lines_are : (form : ℕ) (a : LedgerAccount) → head_line form ∷ (play_line a.run ∷ entries_on form a) ≡ ledger_lines form a ++ [] ∷ []
 unfolding ledger_lines
 lines_are form a =
     sym (regroup (head_line form ∷ play_line a.run ∷ []) (map entry_line a.entries) (map (refusal_line form) a.refusals)
     (tick_lines 0 a.ticks)
     (map hand_line a.hands) (saved_lines a.saved) (end_line a.run.status (length a.ticks) ∷ []) ([] ∷ []))
 
-pub whole_exact : (bytes : List ℕ) (a : Account) → ledger_of bytes ≡ Ok a → IsLedgerOf bytes a
+pub whole_exact : (bytes : List ℕ) (a : LedgerAccount) → ledger_of bytes ≡ Ok a → IsLedgerOf bytes a
 unfolding ledger_of ledger
 whole_exact bytes a h =
-    let p = start_of bytes in
+    let p = ledger_start bytes in
     let v = valued (ledger p) a h in
-    let y : Account × Place = (a, v.0) in
+    let y : LedgerAccount × LedgerPlace = (a, v.0) in
     let k = followed (one_line (said head) p) from_play y v.1 in
     let line = one_exact (said head) p k.place k.x k.first in
     let is = head_line_is line.line k.x line.says in

@@ -1,12 +1,12 @@
--- Words that are read where they stand.
+-- Words that are read where they are.
 use Rattle.std.proofs.Common.{◌≡◌, ℕ, suc, ◌+◌, ◌<◌, ◌≤◌, ◌==◌, Bool, true, false, cond, not, List, [], ◌∷◌, ◌++◌, length, take, drop, Option, Some, None, Result, Ok, Err, refl, sym, ap, ◌∙◌, append_assoc, length-append, arith}
 use Rattle.std.specs.List.{list_all, prefix_len}
 use Rattle.std.proofs.lemmas.Bool.{and_parts, not-true, ne_eqb}
 use Rattle.std.proofs.lemmas.List.{take_at, drop_at}
 use Rattle.ft_text.specs.Texts.{spaced}
-use Rattle.ft_text.specs.Reading.{Place, Reading, give, follow, ◌>>=◌, beyond, behind_spaces, first_word, spaces, word_length, next_word, is_over, or_wrong, word}
+use Rattle.ft_text.specs.Reading.{LinePlace, Reading, give, follow, ◌>>=◌, beyond, behind_spaces, first_word, spaces, word_length, next_word, is_over, or_wrong, word}
 
-abbrev pub place : ℕ → List ℕ → Place
+abbrev pub place : ℕ → List ℕ → LinePlace
 place at left = record { at = at; left = left }
 
 -- a byte of a word
@@ -43,10 +43,10 @@ no_space_first (c ∷ w) rest is =
     ap (λ t. cond t (1 + prefix_len (λ b. b == 32) (w ++ rest)) 0) (not-true (c == 32) parts.0)
 
 -- reading a word where it begins
-abbrev from_start : Place → Result ((ℕ × List ℕ) × Place) ℕ
+abbrev from_start : LinePlace → Result ((ℕ × List ℕ) × LinePlace) ℕ
 from_start start = cond (length start.left == 0) (Err start.at) (Ok ((start.at, first_word start), beyond (word_length start.left) start))
 
-next_is : (p : Place) → next_word p ≡ from_start (behind_spaces p)
+next_is : (p : LinePlace) → next_word p ≡ from_start (behind_spaces p)
 unfolding next_word
 next_is p = refl
 
@@ -55,7 +55,7 @@ unfolding spaces
 begins_here at w rest is = ap (λ n. beyond n (place at (w ++ rest))) (no_space_first w rest is)
 
 -- what is read where n bytes are taken
-abbrev cut_at : ℕ → List ℕ → ℕ → Result ((ℕ × List ℕ) × Place) ℕ
+abbrev cut_at : ℕ → List ℕ → ℕ → Result ((ℕ × List ℕ) × LinePlace) ℕ
 cut_at at left n = Ok ((at, take n left), place (at + n) (drop n left))
 
 is_there : (at : ℕ) (w rest : List ℕ) → IsWord w → ends_word rest ≡ true
@@ -64,7 +64,7 @@ unfolding word_length
 is_there at w rest is end =
     let left : List ℕ = w ++ rest in
     let some : (length left == 0) ≡ false = ne_eqb (length left) 0 (λ e. omega (arith, e, is.some, length-append w rest)) in
-    let found : Result ((ℕ × List ℕ) × Place) ℕ = cut_at at left (prefix_len is_solid left) in
+    let found : Result ((ℕ × List ℕ) × LinePlace) ℕ = cut_at at left (prefix_len is_solid left) in
     ap (λ b. cond b (Err at) found) some
     ∙ (ap (cut_at at left) (length_is w rest is.solid end)
     ∙ (ap (λ v. Ok ((at, v), place (at + length w) (drop (length w) left))) (take_at w rest (length w) refl)
@@ -95,7 +95,8 @@ not_over_behind_space at w rest is = ap (λ p. length p.left == 0) (skipped at (
 
 -- ---- what a reading takes
 
--- a reading gives this value of a text, whatever follows it, and the text has at most so many bytes
+-- a reading gives this value of a text, whatever follows it, and the text has at most that many
+-- bytes
 pub record Takes {A : Type 0} (reading : Reading A) (x : A) (text : List ℕ) (most : ℕ) : Type 0 where
   pub reads : (at : ℕ) (rest : List ℕ) → ends_word rest ≡ true
       → (end : ℕ) × (reading (place at (text ++ rest)) ≡ Ok (x, place end rest))

@@ -22,7 +22,7 @@ use Rattle.ft_text.specs.Reading.{spaces}
 use Rattle.ft_text.specs.Edits.{named}
 use Rattle.ft_text.specs.Lines.{this_word, beginning}
 use Rattle.ft_text.specs.Ledger.{hand_cause, fault_words, cause_words, place_words}
-use Rattle.ft_text.specs.LedgerWords.{Taking, give, follow, ◌>>=◌, with_rest, word, u8, if_text, each_edit, batch_of, most_edits, batch, only_if, form_of, head, play, no_pattern, no_row, no_channel, no_order, no_instrument, range, too_many, no_sample, cut, fault_by, fault, place, edit_cause, worn_cause, full_cause, cause_readings, cause, tick, hand_from, hand_causes, hand, saved_name, saved, is_told, status_of, end}
+use Rattle.ft_text.specs.LedgerWords.{Taking, give, follow, ◌>>=◌, with_rest, word, u8_word, if_text, each_edit, batch_of, most_edits, batch, only_if, form_of, head, play, no_pattern, no_row, no_channel, no_order, no_instrument, range, too_many, no_sample, cut, fault_by, fault, place, edit_cause, worn_cause, full_cause, cause_readings, cause, tick, hand_from, hand_causes, hand, saved_name, saved, is_told, status_of, end}
 use Rattle.ft_text.proofs.SplitsBack.{split}
 
 -- ---- words
@@ -65,7 +65,7 @@ passed test (Some y) x h = elim (cases_Bool (test y)) [
 
 -- ---- what was taken
 
--- the word that a reading took first, its value, and what was read behind it
+-- the word that a reading took first, its value, and what was read after it
 pub record Took {A B : Type 0} (value : List ℕ → Option A) (next : A → Taking B) (words : List (List ℕ))
     (y : B × List (List ℕ)) : Type 0 where
   pub w : List ℕ
@@ -192,7 +192,7 @@ tick_exact n words rest t h =
     (link g.words_are (number_is _ g.x g.w g.value_is) last.1)))))) in
     all ∙ ap (λ t. codes "t" ∷ (numbers (n ∷ t.version ∷ t.order ∷ t.row ∷ t.tick ∷ t.frames ∷ []) ++ rest)) last.0
 
--- what stands in a table behind a name
+-- what is in a table behind a name
 named_case : {A : Type 0} (name : List ℕ) (x : A) (rows : List (List ℕ × A)) (w : List ℕ) (y : A) → named ((name, x) ∷ rows) w ≡ Some y
     → ((w ≡ name) × (x ≡ y)) ⊎ (named rows w ≡ Some y)
 named_case name x rows w y h = elim (cases_Bool (bytes_eq w name)) [
@@ -446,10 +446,10 @@ followed (Some taken) next y h = record { x = taken.0; rest = taken.1; first = r
 place_exact : (form at : ℕ) (words rest : List (List ℕ)) → place form words ≡ Some (at, rest) → words ≡ place_words form at ++ rest
 place_exact form at words rest h = elim (cases_Bool (form == 1)) [
   | inl so ↦
-      let last = given 0 at words rest (sym (ap (λ t. t words) (cond-true (form == 1) (give 0) u8 so)) ∙ h) in
+      let last = given 0 at words rest (sym (ap (λ t. t words) (cond-true (form == 1) (give 0) u8_word so)) ∙ h) in
       last.1 ∙ ap (λ p. p ++ rest) (sym (cond-true (form == 1) [] (numbers (at ∷ [])) so))
   | inr other ↦
-      let last = last_word (number_of 255) words rest at (sym (ap (λ t. t words) (cond-false (form == 1) (give 0) u8 other)) ∙ h) in
+      let last = last_word (number_of 255) words rest at (sym (ap (λ t. t words) (cond-false (form == 1) (give 0) u8_word other)) ∙ h) in
       link last.words_are (number_is 255 at last.w last.value_is) refl
       ∙ ap (λ p. p ++ rest) (sym (cond-false (form == 1) [] (numbers (at ∷ [])) other))
 ]

@@ -1,8 +1,8 @@
--- What a reader answers, against what it reads. Want of memory alone is free.
+-- What a reader answers, against what it reads. Running out of memory alone is free.
 use Rattle.std.specs.Prelude.{◌≡◌, ℕ, Option, Some, None, Result, Ok, Err}
 use Rattle.ft_text.specs.declared.fault.LineFault.{LineFault}
 use Rattle.ft_text.specs.declared.fault.LineFault.TheVariants.{Bad, NoMemory}
-use Rattle.ft_text.specs.Reading.{Place}
+use Rattle.ft_text.specs.Reading.{LinePlace}
 
 -- the fault of a reading
 abbrev pub Fails : {Y : Type 0} → LineFault → Result Y ℕ → Type 0
@@ -10,8 +10,8 @@ Fails NoMemory read = Unit {0}
 Fails (Bad at) read = read ≡ Err at
 
 -- what was answered at a place is this reading, which goes on at the next place
-abbrev pub Reads : {X Y : Type 0} → (X → Y) → Result X LineFault → Place
-    → Result (Y × Place) ℕ → Type 0
+abbrev pub Reads : {X Y : Type 0} → (X → Y) → Result X LineFault → LinePlace
+    → Result (Y × LinePlace) ℕ → Type 0
 Reads view (Ok x) next read = read ≡ Ok (view x, next)
 Reads view (Err fault) next read = Fails fault read
 

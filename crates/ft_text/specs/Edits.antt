@@ -27,8 +27,8 @@ name_20 = word (name_of 20)
 unfoldable pub name_22 : Reading (List ℕ)
 name_22 = word (name_of 22)
 
-unfoldable pub wide_frames : Reading (List ℤ)
-wide_frames = word frames_of
+unfoldable pub frames_argument : Reading (List ℤ)
+frames_argument = word frames_of
 
 -- patterns
 unfoldable pub cell_reading : Reading Edit
@@ -246,7 +246,7 @@ paste_reading = do
   i ← u8
   s ← u8
   at ← u32
-  frames ← wide_frames
+  frames ← frames_argument
   give (edits.Paste i s at frames)
 
 unfoldable pub reverse_reading : Reading Edit
@@ -312,7 +312,7 @@ readings =
     (codes "scale", scale_reading) ∷
     (codes "bits", bits_reading) ∷ []
 
--- what stands in a table behind a name
+-- what is in a table behind a name
 abbrev pub named : {A : Type 0} → List (List ℕ × A) → List ℕ → Option A
 named [] name = None
 named (row ∷ rows) name = if bytes_eq name row.0 then Some row.1 else named rows name

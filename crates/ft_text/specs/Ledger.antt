@@ -1,5 +1,5 @@
 -- The text of a ledger, line by line. An account has the text of form 2, and one that form 1 can
--- tell has a text of that form too.
+-- write has a text of that form too.
 use Rattle.std.specs.Prelude.{ℕ, suc, ◌==◌, List, [], ◌∷◌, ◌++◌, length, map, codes, decimal, Option, Some, None, if◌then◌else◌}
 use Rattle.std.specs.List.{flat_map}
 use Rattle.std.specs.Fmt.{signed_decimal}
@@ -15,7 +15,7 @@ use Rattle.ft_text.specs.declared.record.HandEnd.{HandEnd}
 use Rattle.ft_text.specs.declared.record.SavedLine.{SavedLine}
 use Rattle.ft_text.specs.Words.{numbers}
 use Rattle.ft_text.specs.Texts.{text_of_words, batch_text}
-use Rattle.ft_text.specs.Record.{Account}
+use Rattle.ft_text.specs.Record.{LedgerAccount}
 
 -- which form it is
 abbrev pub head_line : ℕ → List ℕ
@@ -50,7 +50,7 @@ abbrev pub place_words : ℕ → ℕ → List (List ℕ)
 place_words form at = if form == 1 then [] else numbers (at ∷ [])
 
 -- why a batch was refused: an edit's fault, no version after this one, or too few free segments;
--- want of memory is never told
+-- running out of memory is never written
 abbrev pub cause_words : ℕ → CommitFault → List (List ℕ)
 cause_words form (faults.Edit at fault) = (codes "edit" ∷ place_words form at) ++ fault_words fault
 cause_words form (faults.Worn version) = codes "worn" ∷ numbers (version ∷ [])
@@ -102,7 +102,7 @@ abbrev pub end_line : ℕ → ℕ → List ℕ
 end_line status ticks = text_of_words (codes "end" ∷ numbers (status ∷ ticks ∷ []))
 
 -- all lines of an account, in order
-unfoldable pub ledger_lines : ℕ → Account → List (List ℕ)
+unfoldable pub ledger_lines : ℕ → LedgerAccount → List (List ℕ)
 ledger_lines form account =
     (head_line form ∷ play_line account.run ∷ [])
     ++ map entry_line account.entries
@@ -116,9 +116,9 @@ ledger_lines form account =
 abbrev pub ended : List ℕ → List ℕ
 ended line = line ++ 10 ∷ []
 
-abbrev pub joined : List (List ℕ) → List ℕ
-joined lines = flat_map ended lines
+abbrev pub joined_lines : List (List ℕ) → List ℕ
+joined_lines lines = flat_map ended lines
 
 -- the ledger of an account
-unfoldable pub ledger_text : ℕ → Account → List ℕ
-ledger_text form account = joined (ledger_lines form account)
+unfoldable pub ledger_text : ℕ → LedgerAccount → List ℕ
+ledger_text form account = joined_lines (ledger_lines form account)

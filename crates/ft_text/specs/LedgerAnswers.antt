@@ -4,12 +4,12 @@ use Rattle.std.specs.List.{slice_split}
 use Rattle.ft_types.specs.declared.edit.Edit.{Edit}
 use Rattle.ft_text.specs.declared.record.LedgerFault.{LedgerFault}
 use Rattle.ft_text.specs.declared.record.LedgerFault.TheVariants.{Line, NoMemory}
-use Rattle.ft_text.specs.LedgerReading.{Place}
+use Rattle.ft_text.specs.LedgerReading.{LedgerPlace}
 
 -- the parts that are left of bytes, where something is left
-abbrev pub parts_of : ℕ → Option (List ℕ) → List (List ℕ)
-parts_of by None = []
-parts_of by (Some bytes) = slice_split (λ b. b == by) bytes
+abbrev pub parts_left : ℕ → Option (List ℕ) → List (List ℕ)
+parts_left by None = []
+parts_left by (Some bytes) = slice_split (λ b. b == by) bytes
 
 -- what was taken from words is what this reading gives, and these are left behind it
 abbrev pub Takes : {X A : Type 0} → (X → A) → Option X → List (List ℕ) → Option (A × List (List ℕ))
@@ -23,27 +23,28 @@ behind first None = None
 behind first (Some edits) = Some (first ++ edits)
 
 -- edits that are few enough for a batch
-abbrev pub few : Option (List Edit) → Option (List Edit)
-few None = None
-few (Some edits) = if nat_le (length edits) 16 then Some edits else None
+abbrev pub few_edits : Option (List Edit) → Option (List Edit)
+few_edits None = None
+few_edits (Some edits) = if nat_le (length edits) 16 then Some edits else None
 
 -- the line at a place, and the place behind it
-pub record IsAhead (here : Place) (line : List ℕ) (next : Place) : Type 0 where
+pub record IsAhead (here : LedgerPlace) (line : List ℕ) (next : LedgerPlace) : Type 0 where
   pub parts : here.left ≡ line ∷ next.left
   pub count : next.at ≡ here.at + 1
   pub more : (length next.left == 0) ≡ false
 
 -- no line is left, but a last part
-abbrev pub IsLast : Place → Type 0
+abbrev pub IsLast : LedgerPlace → Type 0
 IsLast here = (last : List ℕ) × (here.left ≡ last ∷ [])
 
--- the fault of a reading; want of memory is free
-abbrev pub Fails : {A : Type 0} → LedgerFault → Result A ℕ → Type 0
-Fails NoMemory read = Unit {0}
-Fails (Line line) read = read ≡ Err line
+-- the fault of a reading; running out of memory is free
+abbrev pub LedgerFails : {A : Type 0} → LedgerFault → Result A ℕ → Type 0
+LedgerFails NoMemory read = Unit {0}
+LedgerFails (Line line) read = read ≡ Err line
 
 -- what was answered at a place is this reading, which goes on at the next place
-abbrev pub Reads : {X A : Type 0} → (X → A) → Result X LedgerFault → Place → Result (A × Place) ℕ
+abbrev pub LedgerReads : {X A : Type 0} → (X → A) → Result X LedgerFault → LedgerPlace
+    → Result (A × LedgerPlace) ℕ
     → Type 0
-Reads view (Ok x) next read = read ≡ Ok (view x, next)
-Reads view (Err fault) next read = Fails fault read
+LedgerReads view (Ok x) next read = read ≡ Ok (view x, next)
+LedgerReads view (Err fault) next read = LedgerFails fault read

@@ -12,7 +12,7 @@ use Rattle.ft_text.specs.declared.record.Run.{Run}
 use Rattle.ft_text.specs.declared.record.HandEnd.{HandEnd}
 use Rattle.ft_text.specs.declared.record.SavedLine.{SavedLine}
 use Rattle.ft_text.specs.ReadBack.{IsBatch}
-use Rattle.ft_text.specs.Record.{Account, IsTellable}
+use Rattle.ft_text.specs.Record.{LedgerAccount, IsTellable}
 use Rattle.ft_text.specs.Ledger.{ledger_text}
 use Rattle.ft_text.specs.LedgerReading.{ledger_of}
 
@@ -58,7 +58,7 @@ HandHasRanges end = (end.hand < 2 ^ 8) × (end.at < 2 ^ 32)
 abbrev pub SavedHasRanges : SavedLine → Type 0
 SavedHasRanges saved = (saved.version < 2 ^ 32) × (saved.bytes < 2 ^ 32)
 
-pub record HasRanges (account : Account) : Type 0 where
+pub record AccountHasRanges (account : LedgerAccount) : Type 0 where
   pub run : RunHasRanges account.run
   pub entries : All EntryHasRanges account.entries
   pub refusals : All RefusalHasRanges account.refusals
@@ -71,25 +71,27 @@ abbrev pub IsFirst : CommitFault → Type 0
 IsFirst (faults.Edit at fault) = at ≡ 0
 IsFirst _ = Unit {0}
 
--- what form 1 can tell: single edits, no saved song, and not the status that a failed save has
-pub record IsOld (account : Account) : Type 0 where
+-- what form 1 can write: single edits, no saved song, and not the status that a failed save has
+pub record IsOld (account : LedgerAccount) : Type 0 where
   pub entries : All (λ entry. length entry.batch ≡ 1) account.entries
   pub refusals : All
       (λ refusal. (length refusal.batch ≡ 1) × IsFirst refusal.cause) account.refusals
   pub saved : account.saved ≡ None
   pub status : account.run.status ≢ 10
 
--- the ledger of an account tells that account
+-- the ledger of an account says that account
 abbrev pub LedgersAreReadBack : Type 0
-LedgersAreReadBack = (account : Account) → IsTellable account → HasRanges account
+LedgersAreReadBack = (account : LedgerAccount) → IsTellable account → AccountHasRanges account
     → ledger_of (ledger_text 2 account) ≡ Ok account
 
 -- and so does that of form 1, where there is one
 abbrev pub OldLedgersAreReadBack : Type 0
-OldLedgersAreReadBack = (account : Account) → IsOld account → IsTellable account → HasRanges account
+OldLedgersAreReadBack =
+    (account : LedgerAccount) → IsOld account → IsTellable account → AccountHasRanges account
     → ledger_of (ledger_text 1 account) ≡ Ok account
 
 -- so different accounts have different ledgers
 abbrev pub LedgersDiffer : Type 0
-LedgersDiffer = (a b : Account) → IsTellable a → HasRanges a → IsTellable b → HasRanges b
+LedgersDiffer =
+    (a b : LedgerAccount) → IsTellable a → AccountHasRanges a → IsTellable b → AccountHasRanges b
     → ledger_text 2 a ≡ ledger_text 2 b → a ≡ b

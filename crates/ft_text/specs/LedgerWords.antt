@@ -49,17 +49,17 @@ abbrev pub this : List ℕ → Taking (List ℕ)
 this wanted = word (this_word wanted)
 
 -- a number of each type
-abbrev pub u8 : Taking ℕ
-u8 = word (number_of 255)
+abbrev pub u8_word : Taking ℕ
+u8_word = word (number_of 255)
 
-abbrev pub u16 : Taking ℕ
-u16 = word (number_of 65535)
+abbrev pub u16_word : Taking ℕ
+u16_word = word (number_of 65535)
 
-abbrev pub u32 : Taking ℕ
-u32 = word (number_of 4294967295)
+abbrev pub u32_word : Taking ℕ
+u32_word = word (number_of 4294967295)
 
-abbrev pub u64 : Taking ℕ
-u64 = word (number_of 18446744073709551615)
+abbrev pub u64_word : Taking ℕ
+u64_word = word (number_of 18446744073709551615)
 
 -- the value of a line of which no word is left
 abbrev pub if_over : {A : Type 0} → Option (A × List (List ℕ)) → Option A
@@ -77,20 +77,20 @@ abbrev pub one_edit : Result (Option (Option ℕ × List Edit)) ℕ → Option E
 one_edit (Ok (Some (None, edit ∷ []))) = Some edit
 one_edit _ = None
 
-abbrev pub before : Edit → Option (List Edit) → Option (List Edit)
-before edit None = None
-before edit (Some edits) = Some (edit ∷ edits)
+abbrev pub edit_before : Edit → Option (List Edit) → Option (List Edit)
+edit_before edit None = None
+edit_before edit (Some edits) = Some (edit ∷ edits)
 
 abbrev pub then_others : Option (List Edit) → Option Edit → Option (List Edit)
 then_others others None = None
-then_others others (Some edit) = before edit others
+then_others others (Some edit) = edit_before edit others
 
 -- each part is an edit
 abbrev pub each_edit : List (List ℕ) → Option (List Edit)
 each_edit [] = Some []
 each_edit (part ∷ parts) = then_others (each_edit parts) (one_edit (line_of 0 part))
 
--- these edits, where they are at most so many and the text is theirs
+-- these edits, where they are at most that many and the text is theirs
 abbrev pub if_text : ℕ → List ℕ → Option (List Edit) → Option (List Edit)
 if_text most text None = None
 if_text most text (Some edits) =
@@ -129,10 +129,10 @@ head = do
 abbrev pub play : Taking Run
 play = do
   name ← this (codes "play")
-  rate ← u32
-  seconds ← u32
-  segments ← u16
-  channels ← u8
+  rate ← u32_word
+  seconds ← u32_word
+  segments ← u16_word
+  channels ← u8_word
   give (record {
     rate = rate;
     seconds = seconds;
@@ -144,62 +144,62 @@ play = do
 abbrev pub entry : ℕ → Taking Entry
 entry form = do
   name ← this (codes "c")
-  version ← u32
-  hand ← u8
-  seq ← u32
+  version ← u32_word
+  hand ← u8_word
+  seq ← u32_word
   edits ← batch form
   give (record { version = version; hand = hand; seq = seq; batch = edits })
 
 -- the numbers of each fault of an edit
 abbrev pub no_pattern : Taking EditFault
 no_pattern = do
-  p ← u8
+  p ← u8_word
   give (causes.NoPattern p)
 
 abbrev pub no_row : Taking EditFault
 no_row = do
-  row ← u32
-  rows ← u16
+  row ← u32_word
+  rows ← u16_word
   give (causes.NoRow row rows)
 
 abbrev pub no_channel : Taking EditFault
 no_channel = do
-  ch ← u16
+  ch ← u16_word
   give (causes.NoChannel ch)
 
 abbrev pub no_order : Taking EditFault
 no_order = do
-  position ← u16
+  position ← u16_word
   give (causes.NoOrder position)
 
 abbrev pub no_instrument : Taking EditFault
 no_instrument = do
-  i ← u8
+  i ← u8_word
   give (causes.NoInstrument i)
 
 abbrev pub range : Taking EditFault
 range = do
-  field ← u8
+  field ← u8_word
   found ← word (signed_of 9223372036854775807)
   give (causes.Range field found)
 
 abbrev pub too_many : Taking EditFault
 too_many = do
-  what ← u8
-  count ← u32
+  what ← u8_word
+  count ← u32_word
   give (causes.TooMany what count)
 
 abbrev pub no_sample : Taking EditFault
 no_sample = do
-  i ← u8
-  s ← u8
+  i ← u8_word
+  s ← u8_word
   give (causes.NoSample i s)
 
 abbrev pub cut : Taking EditFault
 cut = do
-  from ← u32
-  to ← u64
-  frames ← u32
+  from ← u32_word
+  to ← u64_word
+  frames ← u32_word
   give (causes.Cut from to frames)
 
 -- no line says this
@@ -223,12 +223,12 @@ fault_by number =
 -- an edit's fault, behind its number
 unfoldable pub fault : Taking EditFault
 fault = do
-  number ← u8
+  number ← u8_word
   fault_by number
 
 -- the place of the edit in its batch; form 1 has only the first
 abbrev pub place : ℕ → Taking ℕ
-place form = if form == 1 then give 0 else u8
+place form = if form == 1 then give 0 else u8_word
 
 abbrev pub edit_cause : ℕ → Taking CommitFault
 edit_cause form = do
@@ -238,13 +238,13 @@ edit_cause form = do
 
 abbrev pub worn_cause : Taking CommitFault
 worn_cause = do
-  version ← u32
+  version ← u32_word
   give (faults.Worn version)
 
 abbrev pub full_cause : Taking CommitFault
 full_cause = do
-  need ← u32
-  free ← u32
+  need ← u32_word
+  free ← u32_word
   give (faults.Full need free)
 
 abbrev pub cause_readings : ℕ → List (List ℕ × Taking CommitFault)
@@ -260,8 +260,8 @@ cause form = do
 abbrev pub refusal : ℕ → Taking Refusal
 refusal form = do
   name ← this (codes "r")
-  hand ← u8
-  seq ← u32
+  hand ← u8_word
+  seq ← u32_word
   why ← cause form
   edits ← batch form
   give (record { hand = hand; seq = seq; batch = edits; cause = why })
@@ -271,14 +271,14 @@ abbrev pub tick : ℕ → Taking TickReport
 tick n = do
   name ← this (codes "t")
   number ← this (decimal n)
-  version ← u32
-  order ← u16
-  row ← u16
-  count ← u16
-  frames ← u32
+  version ← u32_word
+  order ← u16_word
+  row ← u16_word
+  count ← u16_word
+  frames ← u32_word
   give (record { version = version; order = order; row = row; tick = count; frames = frames })
 
--- a hand's number that is at least so much
+-- a hand's number that is at least this
 abbrev pub hand_from : ℕ → List ℕ → Option ℕ
 hand_from least w = only_if (λ hand. nat_le least hand) (number_of 255 w)
 
@@ -291,18 +291,18 @@ hand least = do
   name ← this (codes "h")
   number ← word (hand_from least)
   why ← word (named hand_causes)
-  at ← u32
+  at ← u32_word
   give (record { hand = number; cause = why; at = at })
 
--- only form 2 tells of a saved song
+-- only form 2 names a saved song
 abbrev pub saved_name : ℕ → List ℕ → Option (List ℕ)
 saved_name form w = if form == 1 then None else this_word (codes "s") w
 
 abbrev pub saved : ℕ → Taking SavedLine
 saved form = do
   name ← word (saved_name form)
-  version ← u32
-  bytes ← u32
+  version ← u32_word
+  bytes ← u32_word
   give (record { version = version; bytes = bytes })
 
 -- a status that a ledger of this form may end with
@@ -314,7 +314,7 @@ is_told form status =
 abbrev pub status_of : ℕ → List ℕ → Option ℕ
 status_of form w = only_if (is_told form) (number_of 255 w)
 
--- the status, behind so many ticks
+-- the status, after that many ticks
 abbrev pub end : ℕ → ℕ → Taking ℕ
 end form ticks = do
   name ← this (codes "end")

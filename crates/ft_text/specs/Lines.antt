@@ -2,7 +2,7 @@
 use Rattle.std.specs.Prelude.{◌≡◌, ◌≤◌, ◌⊎◌, IsTrue, ℕ, zero, suc, ◌==◌, ◌||◌, Bool, false, List, [], ◌∷◌, ◌++◌, length, nat_lt, bytes_eq, codes, Option, Some, None, Result, Ok, Err, if◌then◌else◌}
 use Rattle.std.specs.List.{All}
 use Rattle.ft_types.specs.declared.edit.Edit.{Edit}
-use Rattle.ft_text.specs.Reading.{Place, Reading, give, ◌>>=◌, word, is_over, behind_spaces}
+use Rattle.ft_text.specs.Reading.{LinePlace, Reading, give, ◌>>=◌, word, is_over, behind_spaces}
 use Rattle.ft_text.specs.Edits.{u32, edit_reading}
 
 -- a word that has to be this one
@@ -19,7 +19,7 @@ another_reading = do
   separator ← word (this_word (codes ";"))
   edit_reading
 
--- at most so many more edits
+-- at most that many more edits
 unfoldable pub others_reading : ℕ → Reading (List Edit)
 others_reading zero p = end_of_line [] p
 others_reading (suc more) p = if is_over p then Ok ([], p) else (do
@@ -33,7 +33,7 @@ edits_behind first reading = do
   others ← reading
   give (first ++ others)
 
--- an edit, and at most so many more
+-- an edit, and at most that many more
 unfoldable pub edits_reading : ℕ → Reading (List Edit)
 edits_reading more = do
   edit ← edit_reading
@@ -41,7 +41,7 @@ edits_reading more = do
   give (edit ∷ others)
 
 -- a time where the first word was `at`, and else none, with nothing read
-abbrev pub time_if : Place → Result (List ℕ × Place) ℕ → Result (Option ℕ × Place) ℕ
+abbrev pub time_if : LinePlace → Result (List ℕ × LinePlace) ℕ → Result (Option ℕ × LinePlace) ℕ
 time_if p (Ok read) = (do
   time ← u32
   give (Some time)) read.1
@@ -61,21 +61,21 @@ abbrev pub begins_with_hash : List ℕ → Bool
 begins_with_hash [] = false
 begins_with_hash (b ∷ rest) = b == 35
 
-abbrev pub value_only : {A : Type 0} → Result (A × Place) ℕ → Result (Option A) ℕ
+abbrev pub value_only : {A : Type 0} → Result (A × LinePlace) ℕ → Result (Option A) ℕ
 value_only (Ok read) = Ok (Some read.0)
 value_only (Err at) = Err at
 
-abbrev pub start_of : List ℕ → Place
-start_of line = record { at = 0; left = line }
+abbrev pub line_start : List ℕ → LinePlace
+line_start line = record { at = 0; left = line }
 
 -- the place to read from; none in a blank line and in a comment, and a fault in too long a line
-unfoldable pub beginning : List ℕ → Result (Option Place) ℕ
+unfoldable pub beginning : List ℕ → Result (Option LinePlace) ℕ
 beginning line =
     if nat_lt 4096 (length line) then Err 4096
-    else if begins_with_hash line || is_over (start_of line) then Ok None
-    else Ok (Some (start_of line))
+    else if begins_with_hash line || is_over (line_start line) then Ok None
+    else Ok (Some (line_start line))
 
-abbrev pub read_from : ℕ → Result (Option Place) ℕ → Result (Option (Option ℕ × List Edit)) ℕ
+abbrev pub read_from : ℕ → Result (Option LinePlace) ℕ → Result (Option (Option ℕ × List Edit)) ℕ
 read_from more (Ok None) = Ok None
 read_from more (Ok (Some p)) = value_only (timed_reading more p)
 read_from more (Err at) = Err at
@@ -85,7 +85,7 @@ pub record IsSkipped (line : List ℕ) : Type 0 where
   pub short : length line ≤ 4096
   pub quiet : IsTrue (begins_with_hash line) ⊎ All (λ b. b ≡ 32) line
 
--- one edit and at most so many more, none in a blank line or a comment, or where the first wrong
--- word stands: where words are missing it is the length of the line, in too long a line 4,096
+-- one edit and at most that many more, none in a blank line or a comment, or where the first wrong
+-- word is: where words are missing it is the length of the line, in too long a line 4,096
 abbrev pub line_of : ℕ → List ℕ → Result (Option (Option ℕ × List Edit)) ℕ
 line_of more line = read_from more (beginning line)

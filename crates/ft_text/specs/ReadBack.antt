@@ -9,7 +9,7 @@ use Rattle.ft_types.specs.Edits.{IsGivable}
 use Rattle.ft_text.specs.Texts.{edit_text, batch_text}
 use Rattle.ft_text.specs.Lines.{line_of}
 
--- a name of so many bytes
+-- a name of that many bytes
 pub record IsName (size : ℕ) (name : List ℕ) : Type 0 where
   pub full : length name ≡ size
   pub bytes : All (λ b. b < 2 ^ 8) name

@@ -7,8 +7,8 @@ use Rattle.ft_text.specs.Texts.{batch_text}
 use Rattle.ft_text.specs.Lines.{line_of}
 use Rattle.ft_text.specs.ReadBack.{HasRanges, IsReadBack}
 
--- a time or none, and 1 to so many edits whose values are in the ranges of their types
-pub record IsInRange (most : ℕ) (at : Option ℕ) (edits : List Edit) : Type 0 where
+-- a time or none, and 1 to that many edits whose values are in the ranges of their types
+pub record IsLineInRange (most : ℕ) (at : Option ℕ) (edits : List Edit) : Type 0 where
   pub time : IfSome at (λ t. t < 2 ^ 32)
   pub some : 1 ≤ length edits
   pub few : length edits ≤ most
@@ -18,7 +18,7 @@ pub record IsInRange (most : ℕ) (at : Option ℕ) (edits : List Edit) : Type 0
 -- what a line says is in range
 abbrev pub LinesAreInRange : Type 0
 LinesAreInRange = (more : ℕ) (line : List ℕ) (time : Option ℕ) (edits : List Edit)
-    → line_of more line ≡ Ok (Some (time, edits)) → IsInRange (more + 1) time edits
+    → line_of more line ≡ Ok (Some (time, edits)) → IsLineInRange (more + 1) time edits
 
 -- so an edit that some line says is what its own text says
 abbrev pub ReadEditsAreReadBack : Type 0

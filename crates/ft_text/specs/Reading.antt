@@ -2,21 +2,22 @@
 use Rattle.std.specs.Prelude.{ℕ, ◌+◌, ◌==◌, Bool, List, length, take, drop, Option, Some, None, Result, Ok, Err, if◌then◌else◌}
 use Rattle.std.specs.List.{prefix_len, position_or_len}
 
--- a place in a line: how many bytes stand before it, and those from there on
-pub record Place : Type 0 where
+-- a place in a line: how many bytes are before it, and those from there on
+pub record LinePlace : Type 0 where
   pub at : ℕ
   pub left : List ℕ
 
--- a value and the place behind it, or where the first word stands that is wrong
+-- a value and the place behind it, or where the first word begins that is wrong
 abbrev pub Reading : Type 0 → Type 0
-Reading A = Place → Result (A × Place) ℕ
+Reading A = LinePlace → Result (A × LinePlace) ℕ
 
 -- the value is what is read, and nothing is read for it
 abbrev pub give : {A : Type 0} → A → Reading A
 give x p = Ok (x, p)
 
 -- a reading, and then one that may depend on its value
-abbrev pub follow : {A B : Type 0} → (A → Reading B) → Result (A × Place) ℕ → Result (B × Place) ℕ
+abbrev pub follow : {A B : Type 0} → (A → Reading B) → Result (A × LinePlace) ℕ
+    → Result (B × LinePlace) ℕ
 follow next (Ok read) = next read.0 read.1
 follow next (Err at) = Err at
 
@@ -35,19 +36,19 @@ unfoldable pub word_length : List ℕ → ℕ
 word_length bytes = position_or_len (λ b. b == 32) bytes
 
 -- the place n bytes on
-abbrev pub beyond : ℕ → Place → Place
+abbrev pub beyond : ℕ → LinePlace → LinePlace
 beyond n p = record { at = p.at + n; left = drop n p.left }
 
 -- the place behind the spaces here
-abbrev pub behind_spaces : Place → Place
+abbrev pub behind_spaces : LinePlace → LinePlace
 behind_spaces p = beyond (spaces p.left) p
 
 -- nothing but spaces is left
-abbrev pub is_over : Place → Bool
+abbrev pub is_over : LinePlace → Bool
 is_over p = length (behind_spaces p).left == 0
 
 -- the word at this place
-abbrev pub first_word : Place → List ℕ
+abbrev pub first_word : LinePlace → List ℕ
 first_word p = take (word_length p.left) p.left
 
 -- the next word, with its place; where there is none, the line ends too early

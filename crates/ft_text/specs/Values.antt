@@ -5,7 +5,7 @@ use Rattle.std.specs.Fmt.{signed_decimal}
 use Rattle.std.specs.Str.Parse.{digits_value, signed_digits_value}
 use Rattle.hex.specs.Hex.{decode_of, encode_lower}
 
--- a number of at most so much, in decimal digits as it is written
+-- a number of at most n, in decimal digits as it is written
 abbrev pub number_of : ℕ → List ℕ → Option ℕ
 number_of most w =
     let n = digits_value 10 w in
@@ -42,20 +42,20 @@ abbrev pub name_of : ℕ → List ℕ → Option (List ℕ)
 name_of size w = filled size (bytes_of w)
 
 -- a frame before others, where there are any
-abbrev pub before : ℤ → Option (List ℤ) → Option (List ℤ)
-before frame None = None
-before frame (Some frames) = Some (frame ∷ frames)
+abbrev pub frame_before : ℤ → Option (List ℤ) → Option (List ℤ)
+frame_before frame None = None
+frame_before frame (Some frames) = Some (frame ∷ frames)
 
 -- numbers of two bytes, the high one first; none where a byte is left over
 abbrev pub doubles : List ℕ → Option (List ℤ)
 doubles [] = Some []
 doubles (byte ∷ []) = None
-doubles (high ∷ low ∷ rest) = before (cast_signed w16 (high * 256 + low)) (doubles rest)
+doubles (high ∷ low ∷ rest) = frame_before (cast_signed w16 (high * 256 + low)) (doubles rest)
 
 -- 1 to 256 frames
-abbrev pub few : Option (List ℤ) → Option (List ℤ)
-few None = None
-few (Some frames) =
+abbrev pub pasted_frames : Option (List ℤ) → Option (List ℤ)
+pasted_frames None = None
+pasted_frames (Some frames) =
     if nat_le 1 (length frames) && nat_le (length frames) 256 then Some frames else None
 
 abbrev pub doubles_if : Option (List ℕ) → Option (List ℤ)
@@ -63,4 +63,4 @@ doubles_if None = None
 doubles_if (Some bytes) = doubles bytes
 
 abbrev pub frames_of : List ℕ → Option (List ℤ)
-frames_of w = few (doubles_if (bytes_of w))
+frames_of w = pasted_frames (doubles_if (bytes_of w))

@@ -2,7 +2,7 @@
 
 ghost use Rattle.std.specs.Prelude.{◌≤◌, length, IfOk};
 ghost use Rattle.ft_text.specs.Answers.{Reads};
-ghost use Rattle.ft_text.specs.Edits.{u8, u16, u32, i8, i16, name_20, name_22, wide_frames};
+ghost use Rattle.ft_text.specs.Edits.{u8, u16, u32, i8, i16, name_20, name_22, frames_argument};
 
 use crate::bytes::{frames, name};
 use crate::cursor::Cursor;
@@ -97,9 +97,9 @@ impl<'a> Cursor<'a> {
     }
 
     /// 1 to 256 frames.
-    #[tactic(auto, unfolding(crate::specs::Edits::wide_frames))]
+    #[tactic(auto, unfolding(crate::specs::Edits::frames_argument))]
     pub fn frames(&mut self, alloc: Global) -> Result<Frames, LineFault>
-        ensures value { Reads (λ frames. frames) result self.new (wide_frames self.old) }
+        ensures value { Reads (λ frames. frames) result self.new (frames_argument self.old) }
         ensures few { IfOk result (λ frames. (1 ≤ length frames) × (length frames ≤ 256)) }
     {
         let word = self.word()?;

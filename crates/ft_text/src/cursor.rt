@@ -3,7 +3,7 @@
 ghost use Rattle.std.specs.Prelude.{◌≡◌, ◌≢◌, ◌+◌, ◌≤◌, ℕ, List, [], length, Ok, Err};
 ghost use Rattle.std.specs.Bool.{OnTrue, OnFalse};
 ghost use Rattle.ft_types.specs.declared.edit.Edit.{Edit};
-ghost use Rattle.ft_text.specs.Reading.{Place, spaces, word_length, next_word, word, is_over, behind_spaces};
+ghost use Rattle.ft_text.specs.Reading.{LinePlace, spaces, word_length, next_word, word, is_over, behind_spaces};
 ghost use Rattle.ft_text.specs.Lines.{this_word, others_reading};
 ghost use Rattle.ft_text.specs.Answers.{Reads};
 
@@ -13,8 +13,8 @@ use std::marker::Model;
 /// How many bytes a line has at most.
 pub const MOST_BYTES: usize = 4096;
 
-/// Reads a line word by word. Contracts see its place: how many bytes stand before it, and those
-/// that are left.
+/// Reads a line word by word. Contracts see its place: how many bytes are before it, and those that
+/// are left.
 #[derive(Drop)]
 pub struct Cursor<'a> {
     at: u16,
@@ -23,16 +23,16 @@ pub struct Cursor<'a> {
 
 impl<'a> Model for Cursor<'a> {
     ghost use Rattle.std.specs.Prelude.{◌+◌, ◌≤◌, length};
-    ghost use Rattle.ft_text.specs.Reading.{Place};
+    ghost use Rattle.ft_text.specs.Reading.{LinePlace};
 
-    ghost Value = { Place };
+    ghost Value = { LinePlace };
 
     ghost view = { λ c. record { at = c.at; left = c.left.now } };
 
     ghost invariant = { λ c. c.at + length c.left.now ≤ 4096 };
 }
 
-/// A word, and where it stands.
+/// A word, and where it is.
 #[derive(Clone, Copy)]
 pub struct Word<'a> {
     /// The bytes before it.
@@ -85,7 +85,7 @@ impl<'a> Cursor<'a> {
         spaces_of(self.left) == self.left.len()
     }
 
-    /// Where the next word stands, or the length of the line.
+    /// Where the next word is, or the length of the line.
     pub fn next_at(&self) -> u16
         ensures { result ≡ (behind_spaces self.now).at }
     {

@@ -12,11 +12,11 @@ pub enum LineFault {
     /// The line isn't one of a script.
     #[error("wrong at byte {at}")]
     Bad {
-        /// Where the first word stands that is wrong there or too many, in bytes from the front of
+        /// Where the first word begins that is wrong there or too many, in bytes from the front of
         /// the line. The length of the line where words are missing, and 4,096 in a longer line.
         at: u16,
     },
-    /// Memory was wanting. No clause says when.
+    /// Out of memory. No clause says when.
     #[error("out of memory")]
     NoMemory,
 }

@@ -10,7 +10,7 @@ pub fn printed_edits_are_read()
 {}
 
 /// Two such edits that differ have texts that differ.
-pub fn texts_differ()
+pub fn different_edits_have_different_texts()
     ensures { TextsDiffer }
 {}
 
@@ -21,7 +21,7 @@ pub fn printed_batches_are_read()
 
 /// What a line says is in the ranges of its types, so it is what its own text says: an edit, and a
 /// batch whose text has at most 4,096 bytes.
-pub fn what_is_read_is_in_range()
+pub fn read_edits_are_in_range()
     ensures ranges { LinesAreInRange }
     ensures edits { ReadEditsAreReadBack }
     ensures batches { ReadBatchesAreReadBack }

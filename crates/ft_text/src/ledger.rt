@@ -1,8 +1,8 @@
 //! A ledger, written.
 
 ghost use Rattle.std.specs.Prelude.{◌≡◌, ◌++◌, map, OnOk, IfOk};
-ghost use Rattle.ft_text.specs.Record.{account_of, IsTellable};
-ghost use Rattle.ft_text.specs.Ledger.{joined, entry_line, refusal_line, tick_lines, hand_line, saved_lines, ledger_text};
+ghost use Rattle.ft_text.specs.Record.{ledger_account, IsTellable};
+ghost use Rattle.ft_text.specs.Ledger.{joined_lines, entry_line, refusal_line, tick_lines, hand_line, saved_lines, ledger_text};
 
 use crate::ledger_lines::{
     put_end, put_entry, put_hand, put_play, put_refusal, put_saved, put_tick,
@@ -14,7 +14,7 @@ use std::alloc::Global;
 /// The lines of all entries.
 fn put_entries(alloc: Global, text: &mut Vec<u8>, journal: &Journal) -> Result<(), NoMemory>
     ensures { OnOk result (text.new.items ≡
-        text.old.items ++ joined (map entry_line journal.now.entries)) }
+        text.old.items ++ joined_lines (map entry_line journal.now.entries)) }
 {
     for i in 0..journal.entries() {
         if let Some(entry) = journal.entry(i) {
@@ -27,7 +27,7 @@ fn put_entries(alloc: Global, text: &mut Vec<u8>, journal: &Journal) -> Result<(
 /// The lines of all refusals.
 fn put_refusals(alloc: Global, text: &mut Vec<u8>, journal: &Journal) -> Result<(), NoMemory>
     ensures { OnOk result (text.new.items ≡
-        text.old.items ++ joined (map (refusal_line 2) journal.now.refusals)) }
+        text.old.items ++ joined_lines (map (refusal_line 2) journal.now.refusals)) }
 {
     for i in 0..journal.refusals() {
         if let Some(refusal) = journal.refusal(i) {
@@ -39,7 +39,8 @@ fn put_refusals(alloc: Global, text: &mut Vec<u8>, journal: &Journal) -> Result<
 
 /// The lines of all ticks.
 fn put_ticks(text: &mut Vec<u8>, ticks: &[TickReport]) -> Result<(), NoMemory>
-    ensures { OnOk result (text.new.items ≡ text.old.items ++ joined (tick_lines 0 ticks.now)) }
+    ensures { OnOk result (text.new.items ≡ text.old.items
+        ++ joined_lines (tick_lines 0 ticks.now)) }
 {
     for (n, tick) in ticks.iter().enumerate() {
         put_tick(text, n, tick)?;
@@ -49,7 +50,8 @@ fn put_ticks(text: &mut Vec<u8>, ticks: &[TickReport]) -> Result<(), NoMemory>
 
 /// The lines of all hands that ended early.
 fn put_hands(text: &mut Vec<u8>, hands: &[HandEnd]) -> Result<(), NoMemory>
-    ensures { OnOk result (text.new.items ≡ text.old.items ++ joined (map hand_line hands.now)) }
+    ensures { OnOk result (text.new.items ≡ text.old.items
+        ++ joined_lines (map hand_line hands.now)) }
 {
     for end in hands {
         put_hand(text, end)?;
@@ -59,7 +61,8 @@ fn put_hands(text: &mut Vec<u8>, hands: &[HandEnd]) -> Result<(), NoMemory>
 
 /// The line of a saved song, where there is one.
 fn put_if_saved(text: &mut Vec<u8>, saved: &Option<SavedLine>) -> Result<(), NoMemory>
-    ensures { OnOk result (text.new.items ≡ text.old.items ++ joined (saved_lines saved.now)) }
+    ensures { OnOk result (text.new.items ≡ text.old.items
+        ++ joined_lines (saved_lines saved.now)) }
 {
     match saved {
         None => Ok(()),
@@ -67,7 +70,8 @@ fn put_if_saved(text: &mut Vec<u8>, saved: &Option<SavedLine>) -> Result<(), NoM
     }
 }
 
-/// The ledger of a run, in form 2, as docs/TEXTS.md says, "Ledgers". No fault but want of memory.
+/// The ledger of a run, in form 2, as docs/TEXTS.md says, "Ledgers". No fault but running out of
+/// memory.
 #[tactic(auto, unfolding(crate::specs::Ledger::ledger_text, crate::specs::Ledger::ledger_lines))]
 pub fn print_ledger(
     alloc: Global,
@@ -77,9 +81,9 @@ pub fn print_ledger(
     hands: &HandEnds,
     saved: Option<SavedLine>,
 ) -> Result<Vec<u8>, NoMemory>
-    requires { IsTellable (account_of run.now journal.now ticks.now hands.now saved) }
+    requires { IsTellable (ledger_account run.now journal.now ticks.now hands.now saved) }
     ensures { IfOk result (λ text. text.items ≡
-        ledger_text 2 (account_of run.now journal.now ticks.now hands.now saved)) }
+        ledger_text 2 (ledger_account run.now journal.now ticks.now hands.now saved)) }
 {
     let mut text = Vec::from_slice(alloc, b"xmstudio ledger 2\n")?;
     put_play(&mut text, run)?;

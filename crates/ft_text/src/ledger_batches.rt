@@ -7,7 +7,7 @@ ghost use Rattle.ft_text.specs.Record.{CanBeEntered, CanBeRefused};
 ghost use Rattle.std.specs.Option.{option_copied};
 ghost use Rattle.ft_text.specs.Lines.{line_of};
 ghost use Rattle.ft_text.specs.LedgerWords.{said, one_edit, each_edit, batch_of, most_edits, entry, refusal};
-ghost use Rattle.ft_text.specs.LedgerAnswers.{parts_of, behind, few};
+ghost use Rattle.ft_text.specs.LedgerAnswers.{parts_left, behind, few_edits};
 
 use crate::fault::LineFault;
 use crate::ledger_takes::cause;
@@ -54,7 +54,8 @@ fn others(alloc: Global, batch: &mut Batch, parts: Option<&[u8]>) -> Result<bool
     requires few { length batch.old ≤ 16 }
     requires givable { All IsGivable batch.old }
     ensures put { IfOk result (λ put.
-        let edits = few (behind batch.old (each_edit (parts_of 59 (option_copied parts.entry)))) in
+        let edits = few_edits (behind batch.old
+        (each_edit (parts_left 59 (option_copied parts.entry)))) in
         MatchBool put (edits ≡ Some batch.new) (edits ≡ None)) }
     ensures givable { IfOk result (λ put. OnTrue put (All IsGivable batch.new)) }
 {
@@ -75,7 +76,7 @@ fn others(alloc: Global, batch: &mut Batch, parts: Option<&[u8]>) -> Result<bool
 #[tactic(auto, using(crate::proofs::Pushed::all_alone))]
 fn edits_of(alloc: Global, text: &[u8]) -> Result<Option<Batch>, NoMemory>
     ensures value { IfOk result (λ batch.
-        batch ≡ few (each_edit (parts_of 59 (Some text.now)))) }
+        batch ≡ few_edits (each_edit (parts_left 59 (Some text.now)))) }
     ensures givable { IfOk result (λ batch. IfSome batch (All IsGivable)) }
 {
     let Some((part, rest)) = next_of(Some(text), b';') else {

@@ -3,7 +3,7 @@
 ghost use Rattle.ft_text.specs.LedgerBack.{LedgersAreReadBack, OldLedgersAreReadBack, LedgersDiffer};
 ghost use Rattle.ft_text.specs.LedgerExact.{ReadIsWritten, ReadCanBeTold, WrongLineSettles, WrongLineIsFirst, NoneGoesOn, RefusedIsNone};
 
-/// The ledger of what can be told tells it, in form 2 and, where it can, in form 1. So different
+/// The ledger of what can be written says it, in form 2 and, where it can, in form 1. So different
 /// accounts have different ledgers.
 pub fn ledgers_are_read_back()
     ensures back { LedgersAreReadBack }
@@ -12,20 +12,20 @@ pub fn ledgers_are_read_back()
 {}
 
 /// What is read as a ledger is the ledger of what was read, of form 1 or 2.
-pub fn what_is_read_is_written()
+pub fn only_ledgers_are_read()
     ensures { ReadIsWritten }
 {}
 
 /// What is refused as a ledger is none, and no ledger begins with the lines up to the wrong one,
 /// whatever follows them; but from the lines before that one some ledger does go on.
-pub fn what_is_refused_is_none()
+pub fn refused_bytes_are_no_ledger()
     ensures settled { WrongLineSettles }
     ensures front { NoneGoesOn }
     ensures first { WrongLineIsFirst }
     ensures none { RefusedIsNone }
 {}
 
-/// What is read as a ledger can be told, and is in the ranges of its types.
-pub fn what_is_read_can_be_told()
+/// What is read as a ledger can be written, and is in the ranges of its types.
+pub fn read_ledgers_are_in_range()
     ensures { ReadCanBeTold }
 {}

@@ -10,7 +10,7 @@ use crate::ledger_words::cut_at;
 use crate::record::LedgerFault;
 use std::marker::Model;
 
-/// A place in a ledger. Contracts see how many lines stand before it, and the parts from there on.
+/// A place in a ledger. Contracts see how many lines are before it, and the parts from there on.
 #[derive(Drop)]
 pub struct Lines<'a> {
     at: u64,
@@ -20,9 +20,9 @@ pub struct Lines<'a> {
 impl<'a> Model for Lines<'a> {
     ghost use Rattle.std.specs.Prelude.{◌==◌, ◌+◌, ◌<◌, ◌^◌, length};
     ghost use Rattle.std.specs.List.{slice_split};
-    ghost use Rattle.ft_text.specs.LedgerReading.{Place};
+    ghost use Rattle.ft_text.specs.LedgerReading.{LedgerPlace};
 
-    ghost Value = { Place };
+    ghost Value = { LedgerPlace };
 
     ghost view = { λ p. record { at = p.at; left = slice_split (λ b. b == 10) p.left.now } };
 
@@ -51,7 +51,7 @@ impl<'a> Lines<'a> {
         }
     }
 
-    /// That the line here can't stand there.
+    /// That the line here can't be there.
     pub fn wrong(&self) -> LedgerFault
         ensures { result ≡ Line (line_number self.now.at) }
     {

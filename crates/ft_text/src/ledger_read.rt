@@ -1,10 +1,10 @@
 //! A ledger, read.
 
 ghost use Rattle.std.specs.Prelude.{◌≡◌, ◌+◌, [], suc, All, IfOk, OnOk, MatchResult, Ok};
-ghost use Rattle.ft_text.specs.Record.{account_of, Ascend, CanBeEntered, CanBeRefused, HasCause, IsTold, IsTellable};
+ghost use Rattle.ft_text.specs.Record.{ledger_account, Ascend, CanBeEntered, CanBeRefused, HasHandCause, IsEndStatus, IsTellable};
 ghost use Rattle.ft_text.specs.LedgerWords.{said, head, play, entry, refusal, tick, hand, saved, end};
 ghost use Rattle.ft_text.specs.LedgerReading.{one_line, many, lines_of, maybe_line, ledger_of};
-ghost use Rattle.ft_text.specs.LedgerAnswers.{Reads, Fails};
+ghost use Rattle.ft_text.specs.LedgerAnswers.{LedgerReads, LedgerFails};
 
 use crate::ledger_batches::{entry_of, refusal_of};
 use crate::ledger_places::Lines;
@@ -16,7 +16,7 @@ use std::alloc::Global;
 /// The first line: which form it is.
 #[tactic(auto, unfolding(crate::specs::LedgerReading::one_line))]
 fn head(lines: &mut Lines) -> Result<u8, LedgerFault>
-    ensures { Reads (λ form. form) result lines.new (one_line (said head) lines.old) }
+    ensures { LedgerReads (λ form. form) result lines.new (one_line (said head) lines.old) }
 {
     let Some((line, next)) = lines.ahead() else {
         return Err(lines.wrong());
@@ -31,7 +31,7 @@ fn head(lines: &mut Lines) -> Result<u8, LedgerFault>
 /// The second line: what was asked for.
 #[tactic(auto, unfolding(crate::specs::LedgerReading::one_line))]
 fn play(lines: &mut Lines) -> Result<Run, LedgerFault>
-    ensures { Reads (λ run. run) result lines.new (one_line (said play) lines.old) }
+    ensures { LedgerReads (λ run. run) result lines.new (one_line (said play) lines.old) }
 {
     let Some((line, next)) = lines.ahead() else {
         return Err(lines.wrong());
@@ -113,7 +113,7 @@ fn hands(alloc: Global, lines: &mut Lines) -> Result<Vec<HandEnd>, NoMemory>
         many (λ least. said (hand least)) (λ least end. end.hand + 1) 0 lines.old ≡
         Ok (hands.items, lines.new)) }
     ensures ascending { IfOk result (λ hands. Ascend 0 hands.items) }
-    ensures causes { IfOk result (λ hands. All HasCause hands.items) }
+    ensures causes { IfOk result (λ hands. All HasHandCause hands.items) }
 {
     let mut hands = Vec::new(alloc);
     let mut least = 0u16;
@@ -143,12 +143,12 @@ fn saved(form: u8, lines: &mut Lines) -> Option<SavedLine>
     Some(saved)
 }
 
-/// The last line: how the run ended, behind so many ticks.
+/// The last line: how the run ended, after that many ticks.
 #[tactic(auto, unfolding(crate::specs::LedgerReading::one_line))]
 fn end(form: u8, ticks: usize, lines: &mut Lines) -> Result<u8, LedgerFault>
-    ensures read { Reads (λ status. status) result lines.new
+    ensures read { LedgerReads (λ status. status) result lines.new
         (one_line (said (end form ticks)) lines.old) }
-    ensures told { IfOk result IsTold }
+    ensures told { IfOk result IsEndStatus }
 {
     let Some((line, next)) = lines.ahead() else {
         return Err(lines.wrong());
@@ -162,15 +162,15 @@ fn end(form: u8, ticks: usize, lines: &mut Lines) -> Result<u8, LedgerFault>
 
 /// Reads a ledger of form 1 or 2, as docs/TEXTS.md says, "Ledgers".
 ///
-/// `Line` comes exactly where the bytes are no ledger, with the first line that can't stand there;
-/// the other fault is want of memory.
+/// `Line` comes exactly where the bytes are no ledger, with the first line that can't be there; the
+/// other fault is running out of memory.
 #[tactic(auto, unfolding(crate::specs::LedgerReading::ledger_of, crate::specs::LedgerReading::ledger, crate::specs::LedgerReading::over))]
 pub fn read_ledger(alloc: Global, bytes: &[u8]) -> Result<Record, LedgerFault>
     ensures read { MatchResult result
-        (λ r. ledger_of bytes.now ≡ Ok (account_of r.run r.journal r.ticks r.hands r.saved))
-        (λ fault. Fails fault (ledger_of bytes.now)) }
+        (λ r. ledger_of bytes.now ≡ Ok (ledger_account r.run r.journal r.ticks r.hands r.saved))
+        (λ fault. LedgerFails fault (ledger_of bytes.now)) }
     ensures tellable { IfOk result (λ r.
-        IsTellable (account_of r.run r.journal r.ticks r.hands r.saved)) }
+        IsTellable (ledger_account r.run r.journal r.ticks r.hands r.saved)) }
 {
     let mut lines = Lines::new(bytes);
     let form = head(&mut lines)?;

@@ -1,7 +1,7 @@
 //! What each line of a ledger says, word by word.
 
 ghost use Rattle.std.specs.Prelude.{◌≡◌, ◌≢◌, ◌≤◌, codes, IfSome};
-ghost use Rattle.ft_text.specs.Record.{HasCause, IsTold};
+ghost use Rattle.ft_text.specs.Record.{HasHandCause, IsEndStatus};
 ghost use Rattle.ft_text.specs.LedgerAnswers.{Takes};
 ghost use Rattle.ft_text.specs.LedgerWords.{said, head, play, no_pattern, no_row, no_channel, no_order, no_instrument, range, too_many, no_sample, cut, fault_by, fault, place, edit_cause, worn_cause, full_cause, cause, tick, hand, saved, end};
 
@@ -144,7 +144,7 @@ fn edit_cause(words: &mut Words, form: u8) -> Option<CommitFault>
     Some(CommitFault::Edit { at, fault })
 }
 
-/// A batch that was refused for want of segments.
+/// A batch that was refused for too few segments.
 fn full_cause(words: &mut Words) -> Option<CommitFault>
     ensures value { Takes (λ cause. cause) result words.new (full_cause words.old) }
     ensures told { IfSome result (λ cause. cause ≢ CommitFault.NoMemory) }
@@ -207,7 +207,7 @@ pub fn tick_of(n: usize, line: &[u8]) -> Option<TickReport>
 fn hand(words: &mut Words, least: u16) -> Option<HandEnd>
     ensures value { Takes (λ end. end) result words.new (hand least words.old) }
     ensures from { IfSome result (λ end. least ≤ end.hand) }
-    ensures cause { IfSome result HasCause }
+    ensures cause { IfSome result HasHandCause }
 {
     words.this("h")?;
     let hand = words.hand_from(least)?;
@@ -220,7 +220,7 @@ fn hand(words: &mut Words, least: u16) -> Option<HandEnd>
 pub fn hand_of(least: u16, line: &[u8]) -> Option<HandEnd>
     ensures value { result ≡ said (hand least) line.now }
     ensures from { IfSome result (λ end. least ≤ end.hand) }
-    ensures cause { IfSome result HasCause }
+    ensures cause { IfSome result HasHandCause }
 {
     let mut words = Words::new(line);
     let end = hand(&mut words, least)?;
@@ -246,10 +246,10 @@ pub fn saved_of(form: u8, line: &[u8]) -> Option<SavedLine>
     if words.is_over() { Some(saved) } else { None }
 }
 
-/// How the run ended, behind so many ticks.
+/// How the run ended, after that many ticks.
 fn end(words: &mut Words, form: u8, ticks: usize) -> Option<u8>
     ensures value { Takes (λ status. status) result words.new (end form ticks words.old) }
-    ensures told { IfSome result IsTold }
+    ensures told { IfSome result IsEndStatus }
 {
     words.this("end")?;
     let status = words.status(form)?;
@@ -260,7 +260,7 @@ fn end(words: &mut Words, form: u8, ticks: usize) -> Option<u8>
 /// The last line.
 pub fn end_of(form: u8, ticks: usize, line: &[u8]) -> Option<u8>
     ensures value { result ≡ said (end form ticks) line.now }
-    ensures told { IfSome result IsTold }
+    ensures told { IfSome result IsEndStatus }
 {
     let mut words = Words::new(line);
     let status = end(&mut words, form, ticks)?;

@@ -3,12 +3,12 @@
 ghost use Rattle.std.specs.Prelude.{◌≡◌, ◌==◌, ◌<◌, ◌≤◌, [], ◌∷◌, length, codes, decimal, MatchOption, IfSome};
 ghost use Rattle.std.specs.Bool.{OnTrue};
 ghost use Rattle.std.specs.Option.{option_copied};
-ghost use Rattle.ft_text.specs.Record.{IsTold};
+ghost use Rattle.ft_text.specs.Record.{IsEndStatus};
 ghost use Rattle.std.specs.List.{slice_split, position_or_len, join_with_byte};
 ghost use Rattle.ft_text.specs.Values.{number_of, signed_of};
 ghost use Rattle.ft_text.specs.Edits.{named};
-ghost use Rattle.ft_text.specs.LedgerWords.{word, this, u8, u16, u32, u64, form_of, hand_from, hand_causes, saved_name, is_told, status_of};
-ghost use Rattle.ft_text.specs.LedgerAnswers.{Takes, parts_of};
+ghost use Rattle.ft_text.specs.LedgerWords.{word, this, u8_word, u16_word, u32_word, u64_word, form_of, hand_from, hand_causes, saved_name, is_told, status_of};
+ghost use Rattle.ft_text.specs.LedgerAnswers.{Takes, parts_left};
 
 use crate::ledger_numbers::{number, signed};
 use itoa::Buffer;
@@ -46,9 +46,9 @@ pub fn cut_at<'a>(bytes: &'a [u8], by: u8) -> Option<(&'a [u8], &'a [u8])>
 /// The next part, and what is left behind it.
 pub fn next_of<'a>(left: Option<&'a [u8]>, by: u8) -> Option<(&'a [u8], Option<&'a [u8]>)>
     ensures { MatchOption result
-        (parts_of by (option_copied left.entry) ≡ [])
-        (λ next. parts_of by (option_copied left.entry) ≡
-        next.0.now ∷ parts_of by (option_copied next.1)) }
+        (parts_left by (option_copied left.entry) ≡ [])
+        (λ next. parts_left by (option_copied left.entry) ≡
+        next.0.now ∷ parts_left by (option_copied next.1)) }
 {
     let bytes = left?;
     match cut_at(bytes, by) {
@@ -57,8 +57,8 @@ pub fn next_of<'a>(left: Option<&'a [u8]>, by: u8) -> Option<(&'a [u8], Option<&
     }
 }
 
-/// Takes the words of a line from the left; one space stands between two of them. Contracts see
-/// those that are left.
+/// Takes the words of a line from the left; one space is between two of them. Contracts see those
+/// that are left.
 #[derive(Drop)]
 pub struct Words<'a> {
     left: Option<&'a [u8]>,
@@ -67,11 +67,11 @@ pub struct Words<'a> {
 impl<'a> Model for Words<'a> {
     ghost use Rattle.std.specs.Prelude.{List, ℕ};
     ghost use Rattle.std.specs.Option.{option_copied};
-    ghost use Rattle.ft_text.specs.LedgerAnswers.{parts_of};
+    ghost use Rattle.ft_text.specs.LedgerAnswers.{parts_left};
 
     ghost Value = { List (List ℕ) };
 
-    ghost view = { λ w. parts_of 32 (option_copied w.left) };
+    ghost view = { λ w. parts_left 32 (option_copied w.left) };
 }
 
 impl<'a> Words<'a> {
@@ -112,7 +112,7 @@ impl<'a> Words<'a> {
 /// Whether a ledger of this form may end with this status.
 fn is_told(form: u8, status: u8) -> bool
     ensures value { result ≡ is_told form status }
-    ensures told { OnTrue result (IsTold status) }
+    ensures told { OnTrue result (IsEndStatus status) }
 {
     match status {
         0 | 5 | 8 | 9 => true,
@@ -148,7 +148,7 @@ impl<'a> Words<'a> {
 
     /// A u8.
     pub fn u8(&mut self) -> Option<u8>
-        ensures { Takes (λ n. n) result self.new (u8 self.old) }
+        ensures { Takes (λ n. n) result self.new (u8_word self.old) }
     {
         let n = self.number(255)?;
         Some(n as u8)
@@ -156,7 +156,7 @@ impl<'a> Words<'a> {
 
     /// A u16.
     pub fn u16(&mut self) -> Option<u16>
-        ensures { Takes (λ n. n) result self.new (u16 self.old) }
+        ensures { Takes (λ n. n) result self.new (u16_word self.old) }
     {
         let n = self.number(65_535)?;
         Some(n as u16)
@@ -164,7 +164,7 @@ impl<'a> Words<'a> {
 
     /// A u32.
     pub fn u32(&mut self) -> Option<u32>
-        ensures { Takes (λ n. n) result self.new (u32 self.old) }
+        ensures { Takes (λ n. n) result self.new (u32_word self.old) }
     {
         let n = self.number(4_294_967_295)?;
         Some(n as u32)
@@ -172,7 +172,7 @@ impl<'a> Words<'a> {
 
     /// A u64.
     pub fn u64(&mut self) -> Option<u64>
-        ensures { Takes (λ n. n) result self.new (u64 self.old) }
+        ensures { Takes (λ n. n) result self.new (u64_word self.old) }
     {
         self.number(u64::MAX)
     }
@@ -211,7 +211,7 @@ impl<'a> Words<'a> {
         if form >= 1 { Some(form as u8) } else { None }
     }
 
-    /// A hand's number that is at least so much.
+    /// A hand's number that is at least this.
     #[tactic(auto, unfolding(crate::specs::LedgerWords::word))]
     pub fn hand_from(&mut self, least: u16) -> Option<u8>
         ensures value { Takes (λ hand. hand) result self.new (word (hand_from least) self.old) }
@@ -268,7 +268,7 @@ impl<'a> Words<'a> {
     #[tactic(auto, unfolding(crate::specs::LedgerWords::word))]
     pub fn status(&mut self, form: u8) -> Option<u8>
         ensures value { Takes (λ status. status) result self.new (word (status_of form) self.old) }
-        ensures told { IfSome result IsTold }
+        ensures told { IfSome result IsEndStatus }
     {
         let word = self.next()?;
         let status = number(word, 255)?;

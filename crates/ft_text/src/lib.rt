@@ -1,13 +1,13 @@
 //! Edits and ledgers as text, in words.
 //!
-//! Which text an edit and a batch have stands in `specs/`: `Words` has the words of each edit, and
+//! Which text an edit and a batch have is in `specs/`: `Words` has the words of each edit, and
 //! `Texts` puts words together. `print_edit` and `print_batch` write exactly that text. What a line
-//! says, or where its first wrong word stands, is `line_of` of `specs/Lines`: `read_edit` and
-//! `read_batch` answer exactly that, unless memory is wanting.
+//! says, or where its first wrong word is, is `line_of` of `specs/Lines`: `read_edit` and
+//! `read_batch` answer exactly that, unless memory runs out.
 //!
-//! What a ledger tells is an `Account` of `specs/Record`, and its text is in `specs/Ledger`.
+//! What a ledger says is a `LedgerAccount` of `specs/Record`, and its text is in `specs/Ledger`.
 //! `print_ledger` writes it. `read_ledger` answers what `specs/LedgerReading` says, or the first
-//! line that can't stand there.
+//! line that can't be there.
 #![tactic(auto)]
 
 mod arguments;
@@ -38,12 +38,13 @@ mod words;
 
 pub use fault::LineFault;
 pub use laws::{
-    printed_batches_are_read, printed_edits_are_read, texts_differ, what_is_read_is_in_range,
+    different_edits_have_different_texts, printed_batches_are_read, printed_edits_are_read,
+    read_edits_are_in_range,
 };
 pub use ledger::print_ledger;
 pub use ledger_laws::{
-    ledgers_are_read_back, what_is_read_can_be_told, what_is_read_is_written,
-    what_is_refused_is_none,
+    ledgers_are_read_back, only_ledgers_are_read, read_ledgers_are_in_range,
+    refused_bytes_are_no_ledger,
 };
 pub use ledger_read::read_ledger;
 pub use print::{print_batch, print_edit};

@@ -8,7 +8,7 @@ use ft_types::{Batch, Edit, NoMemory};
 use std::alloc::Global;
 
 /// The text of an edit: its words, with one space between two of them. Names are written with all
-/// their bytes. No fault but want of memory.
+/// their bytes. No fault but running out of memory.
 #[tactic(auto, unfolding(crate::specs::Texts::edit_text))]
 pub fn print_edit(alloc: Global, edit: &Edit) -> Result<Vec<u8>, NoMemory>
     ensures { IfOk result (λ text. text.items ≡ edit_text edit.now) }
@@ -253,8 +253,8 @@ pub fn print_edit(alloc: Global, edit: &Edit) -> Result<Vec<u8>, NoMemory>
     }
 }
 
-/// The text of a batch: those of its edits, with ` ; ` between two of them. No fault but want of
-/// memory.
+/// The text of a batch: those of its edits, with ` ; ` between two of them. No fault but running
+/// out of memory.
 #[tactic(auto, unfolding(crate::specs::Texts::batch_text))]
 pub fn print_batch(alloc: Global, batch: &Batch) -> Result<Vec<u8>, NoMemory>
     ensures { IfOk result (λ text. text.items ≡ batch_text batch.now) }

@@ -193,7 +193,7 @@ fn begin(line: &[u8]) -> Result<Option<Cursor>, LineFault>
 /// The edit of a line without its end. None where the line is blank or a comment.
 ///
 /// `Bad` comes exactly where the line is none of a script, with the place that `docs/TEXTS.md`
-/// gives; the other fault is want of memory.
+/// gives; the other fault is running out of memory.
 pub fn read_edit(alloc: Global, line: &[u8]) -> Result<Option<Timed>, LineFault>
     ensures value { Tells (λ timed. (timed.at, timed.edit ∷ [])) result (line_of 0 line.now) }
     ensures none { NoneExactly (IsSkipped line.now) result }
@@ -210,7 +210,7 @@ pub fn read_edit(alloc: Global, line: &[u8]) -> Result<Option<Timed>, LineFault>
 /// line is blank or a comment.
 ///
 /// `Bad` comes exactly where the line is none of a script, with the place that `docs/TEXTS.md`
-/// gives; the other fault is want of memory.
+/// gives; the other fault is running out of memory.
 pub fn read_batch(alloc: Global, line: &[u8]) -> Result<Option<TimedBatch>, LineFault>
     ensures value { Tells (λ timed. (timed.at, timed.batch)) result (line_of 15 line.now) }
     ensures none { NoneExactly (IsSkipped line.now) result }

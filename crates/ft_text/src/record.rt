@@ -1,4 +1,4 @@
-//! What a ledger tells of a run.
+//! What a ledger says of a run.
 
 ghost use Rattle.std.specs.Prelude.{◌≡◌};
 ghost use Rattle.ft_text.specs.declared.record.LedgerFault.TheVariants.{NoMemory as no_memory};
@@ -45,7 +45,7 @@ pub struct SavedLine {
     pub bytes: u32,
 }
 
-/// All that a ledger tells.
+/// All that a ledger says.
 #[derive(Debug, Drop)]
 pub struct Record {
     /// What was asked for, and how it ended.
@@ -66,11 +66,11 @@ pub enum LedgerFault {
     /// They are no ledger.
     #[error("line {line} is no line of a ledger")]
     Line {
-        /// The first line that can't stand there, from 1. Where a line is missing at the end it
-        /// is the one behind the last. The greatest u32 stands for any line from there on.
+        /// The first line that can't be there, from 1. Where a line is missing at the end it is the
+        /// one behind the last. The greatest u32 stands for any line from there on.
         line: u32,
     },
-    /// Memory was wanting. No clause says when.
+    /// Out of memory. No clause says when.
     #[error("out of memory")]
     NoMemory,
 }

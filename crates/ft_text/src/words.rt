@@ -1,4 +1,4 @@
-//! Words put behind one another.
+//! Words put one after the other.
 
 ghost use Rattle.std.specs.Prelude.{◌≡◌, ◌∷◌, ◌++◌, [], map, IfOk, OnOk};
 ghost use Rattle.std.specs.Int.{w16, cast_unsigned};

@@ -11,9 +11,9 @@ enum Read {
     Same,
     /// It is printed otherwise.
     Other,
-    /// This line can't stand there.
+    /// This line can't be there.
     Line(u32),
-    /// Memory was wanting.
+    /// Out of memory.
     Wanting,
 }
 
@@ -79,7 +79,7 @@ const REVERSED: &str = "xmstudio ledger 2\nplay 8363 1 16384 1\nc 1 0 1 reverse 
 t 0 0 0 0 0 167\nt 1 1 0 0 1 167\nt 2 1 0 0 2 167\nt 3 1 0 0 3 168\nt 4 1 0 0 4 167\n\
 t 5 1 0 0 5 167\nend 5 6\n";
 
-/// The same, as form 1 tells it.
+/// The same, as form 1 writes it.
 const REVERSED_OLD: &str = "xmstudio ledger 1\nplay 8363 1 16384 1\nc 1 0 1 reverse 1 0 0 4\n\
 t 0 0 0 0 0 167\nt 1 1 0 0 1 167\nt 2 1 0 0 2 167\nt 3 1 0 0 3 168\nt 4 1 0 0 4 167\n\
 t 5 1 0 0 5 167\nend 5 6\n";
@@ -90,7 +90,7 @@ c 2 1 1 cell 0 1 0 49 1 0 0 0\nc 3 1 2 cell 0 2 0 49 1 0 0 0\nc 4 0 3 cell 0 3 0
 c 5 1 3 cell 0 4 0 49 1 0 0 0\nr 0 2 edit 0 2 64 64 cell 0 64 0 49 1 0 0 0\nt 0 5 0 0 0 882\n\
 end 0 1\n";
 
-/// The same, as form 1 tells it: without the place of the refused edit.
+/// The same, as form 1 writes it: without the place of the refused edit.
 const TWO_HANDS_OLD: &str = "xmstudio ledger 1\nplay 44100 60 16384 2\n\
 c 1 0 1 cell 0 0 0 49 1 0 0 0\nc 2 1 1 cell 0 1 0 49 1 0 0 0\nc 3 1 2 cell 0 2 0 49 1 0 0 0\n\
 c 4 0 3 cell 0 3 0 49 1 0 0 0\nc 5 1 3 cell 0 4 0 49 1 0 0 0\n\
@@ -112,7 +112,7 @@ h 3 limit 100000\nh 255 memory 4294967295\ns 0 782\nend 10 0\n";
 /// The shortest ledger.
 const SHORTEST: &str = "xmstudio ledger 2\nplay 0 0 0 0\nend 0 0\n";
 
-/// Ledgers, as they are printed, and what they tell.
+/// Ledgers, as they are printed, and what they say.
 static LEDGERS: [(&str, &str, Numbers); 7] = [
     (REVERSED, REVERSED, [1, 0, 6, 0, 0, 5]),
     (REVERSED_OLD, REVERSED, [1, 0, 6, 0, 0, 5]),
@@ -123,8 +123,8 @@ static LEDGERS: [(&str, &str, Numbers); 7] = [
     (SHORTEST, SHORTEST, [0, 0, 0, 0, 0, 0]),
 ];
 
-/// Ledgers whose lines aren't all there, or stand in another order, with the first line that can't
-/// stand there.
+/// Ledgers whose lines aren't all there, or are in another order, with the first line that can't be
+/// there.
 static ORDERS: [(&str, u32); 23] = [
     ("", 1),
     ("\n", 1),
@@ -175,7 +175,7 @@ static ORDERS: [(&str, u32); 23] = [
     ("xmstudio ledger 1\nplay 1 1 64 1\nend 10 0\n", 3),
 ];
 
-/// Third lines that can't stand in a ledger.
+/// Third lines that can't be in a ledger.
 static LINES: [&str; 24] = [
     "c 1 0 1",
     "c 1 0 1 ",
@@ -252,7 +252,7 @@ fn words_of_a_line_stand_as_they_are_printed(rt: HostRuntime) -> Result<(), Fail
     Ok(())
 }
 
-/// What a ledger is read as that has a batch of so many pastes of 256 frames.
+/// What a ledger is read as that has a batch of that many pastes of 256 frames.
 fn with_pastes(alloc: Global, pastes: usize) -> Result<Read, AllocError> {
     let mut ledger = Vec::from_slice(alloc, b"xmstudio ledger 2\nplay 1 1 64 1\nc 1 0 1")?;
     for i in 0..pastes {

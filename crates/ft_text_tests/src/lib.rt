@@ -1,4 +1,4 @@
-//! Texts: what lines of scripts say, and where their first wrong words stand; ledgers, read and
+//! Texts: what lines of scripts say, and where their first wrong words are; ledgers, read and
 //! printed.
 #![tactic(auto)]
 

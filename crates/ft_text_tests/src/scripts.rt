@@ -12,13 +12,13 @@ enum Said {
     Skipped,
     /// It is wrong at this byte.
     Bad(u16),
-    /// Memory was wanting.
+    /// Out of memory.
     Wanting,
     /// An edit at no time.
     Edit([i64; 9]),
     /// An edit at a time.
     At(u32, [i64; 9]),
-    /// So many edits, the last of which is this one.
+    /// That many edits, the last of which is this one.
     Batch(usize, [i64; 9]),
     /// The same, at a time.
     BatchAt(u32, usize, [i64; 9]),
@@ -286,7 +286,7 @@ fn a_line_has_at_most_4096_bytes(rt: HostRuntime) -> Result<(), Fail> {
     Ok(())
 }
 
-/// What a paste of so many frames says.
+/// What a paste of that many frames says.
 fn pasted(alloc: Global, frames: usize) -> Result<Said, AllocError> {
     let mut line = Vec::from_slice(alloc, b"paste 1 0 4 ")?;
     for _ in 0..frames {

@@ -66,7 +66,7 @@ keeps_then a b c h k l x y z p q = record {
   wide = q.wide ∙ p.wide;
 }
 
--- a call that keeps all that was kept, and after which one voice of the same head may stand
+-- a call that keeps all that was kept, and after which one voice of the same head may be there
 pub keeps_voice :
     (before after : ℕ → SampleHead → Type 0) (held held_after : List Bool) (c : ℕ) (voice voice_after : Option Voice)
     → held_after ≡ held → ((d : ℕ) (h : SampleHead) → before d h → after d h)

@@ -62,7 +62,7 @@ turned rule c before after control control_after channels channel lt le t =
     (set-lanes_of channels before.kept c made.lane.channel made.lane.owned le)) in
     new ∙ ap (λ (x : Turn). with_turn c (rule c x) (state_of control channels before)) (sym at)
 
--- the same with what stands behind the view before and after
+-- the same with what is behind the view before and after
 pub turn_made :
     (rule : ℕ → Module → ℕ → Turn → Turn) (c : ℕ) (before after : Shown) (control control_after : Control)
     (channels : List Channel) (channel : Channel)

@@ -117,7 +117,7 @@ gathered_state channels rest n e h =
     let k : n ≡ length (map emptied channels) = e ∙ sym (length-map channels emptied) in
     rw (k, take-append_seam (map emptied channels) rest) (back channels h)
 
--- ---- where gathered voices stand
+-- ---- where gathered voices are
 
 ascending_from : (low more high : ℕ) (voices : List Voice) → low ≤ more → IsAscending more high voices
     → IsAscending low high voices
@@ -141,7 +141,7 @@ gathered_from n high (channel ∷ channels) le h =
     one_then n high channel.voice (gathered channels) (omega arith) h.0
     (gathered_from (n + 1) high channels (omega arith) h.1)
 
--- gathered voices stand in ascending channels, none twice
+-- gathered voices are in ascending channels, none twice
 pub gathered_ascend : (channels : List Channel) → AllHome channels → IsAscending 0 (length channels) (gathered channels)
 gathered_ascend channels h = gathered_from 0 (length channels) channels (omega arith) (all_home channels h)
 

@@ -11,6 +11,6 @@ turn_bound = order_bound + cell_bound + row_bound
 abbrev pub hear_bound : ℕ
 hear_bound = 2 * envelope_bound + shape_bound
 
--- a tick of so many channels, up to its sound
+-- a tick of that many channels, up to its sound
 abbrev pub tick_bound : ℕ → ℕ
 tick_bound channels = 56 + 94 * channels

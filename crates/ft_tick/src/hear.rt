@@ -8,7 +8,7 @@ ghost use Rattle.ft_replay.specs.Calls as calls;
 ghost use Rattle.ft_replay.specs.Envelopes as envelopes;
 ghost use Rattle.ft_replay.specs.Hearing as hearing;
 ghost use Rattle.ft_replay.specs.Range.{AreInRange, IsChannelInRange, IsMemoryInRange, IsVoiceInRange};
-ghost use Rattle.ft_channel.specs.Staying.{sample_of};
+ghost use Rattle.ft_channel.specs.Staying.{voice_head};
 ghost use Rattle.ft_tick.specs.Bounds.{hear_bound};
 
 use crate::gain::{gain_of, left_gain, right_gain};
@@ -78,7 +78,7 @@ fn room_of(panning: u8) -> u8
     (256 - u16::from(panning)) as u8
 }
 
-/// So many parts of 32 of a room, rounded down.
+/// That many parts of 32 of a room, rounded down.
 #[tactic(auto, unfolding(ft_replay::specs::Hearing::moved))]
 fn moved(parts: i32, room: u8) -> i32
     requires low { negsuc 31 ≤ℤ parts }
@@ -293,7 +293,7 @@ fn fadeout_of(shape: &Option<Shape>) -> u16
 fn end_after_tick(channel: &mut Channel)
     ensures value { channel.new ≡ record channel.old { voice = hearing.with_last channel.old.voice } }
     ensures range { (c : ℕ) → IsChannelInRange c channel.old → IsChannelInRange c channel.new }
-    ensures sample { sample_of channel.new.voice ≡ sample_of channel.old.voice }
+    ensures sample { voice_head channel.new.voice ≡ voice_head channel.old.voice }
 {
     let Some(voice) = channel.voice else {
         return;
@@ -308,7 +308,7 @@ fn end_after_tick(channel: &mut Channel)
 fn fade(channel: &mut Channel, fadeout: u16)
     ensures value { channel.new ≡ hearing.with_fade fadeout channel.old }
     ensures range { (c : ℕ) → IsChannelInRange c channel.old → IsChannelInRange c channel.new }
-    ensures sample { sample_of channel.new.voice ≡ sample_of channel.old.voice }
+    ensures sample { voice_head channel.new.voice ≡ voice_head channel.old.voice }
 {
     if !channel.released {
         return;
@@ -338,7 +338,7 @@ fn sound(
     ensures value { channel.new ≡ hearing.heard_by time.rate time.global time.linear
         volume.now panning.now shape.now channel.old.voice channel.old }
     ensures range { (c : ℕ) → IsChannelInRange c channel.old → IsChannelInRange c channel.new }
-    ensures sample { sample_of channel.new.voice ≡ sample_of channel.old.voice }
+    ensures sample { voice_head channel.new.voice ≡ voice_head channel.old.voice }
 {
     let offset = vibrate(channel, shape);
     let heard = heard_voice(channel, voice, time, volume, panning, offset);

@@ -117,7 +117,7 @@ fn value_of(state: &SongState, at: Place, what: What) -> i32 {
     }
 }
 
-/// Plays so many ticks.
+/// Plays that many ticks.
 pub fn skip<V: SongView>(view: &mut V, state: &mut SongState, rate: u32, ticks: u8)
     requires wide { state.old.used ≡ length (V.holds view.old) }
     requires low { 8000 ≤ rate }

@@ -1,4 +1,4 @@
-//! Retriggers. Effect 9 begins the sample at frame 256, so that frame 0 tells a retrigger.
+//! Retriggers. Effect 9 begins the sample at frame 256, so that frame 0 shows a retrigger.
 
 use crate::playing::{ROW, Row, What, first_wrong};
 use crate::song::{SONG, Song, THREE_TICKS, TWO_TICKS};

@@ -86,7 +86,7 @@ static SLIDES: [Row; 18] = [
         values: &[4616, 4616],
         ..ROW
     },
-    // As it stands, once.
+    // As it is, once.
     Row {
         name: "extra_fine_up",
         song: Song {

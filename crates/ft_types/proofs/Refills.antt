@@ -13,7 +13,7 @@ whole : {X : Type 0} (ws : List X) → take (length ws) (ws ++ []) ≡ ws
 whole [] = refl
 whole {X = X} (w ∷ ws) = ap (λ (l : List X). w ∷ l) (whole ws)
 
--- as many as before stand as they were written
+-- as many as before are as they were written
 pub refilled : {X : Type 0} (xs ws : List X) → length ws ≡ length xs → refill (length xs) xs ws ≡ ws
 refilled xs ws e = rw (dropped xs ws e, sym e) (whole ws)
 

@@ -11,8 +11,8 @@ use Rattle.ft_types.specs.declared.edit_kind.NumberType.TheVariants.{U8, U16, U3
 use Rattle.ft_types.specs.declared.edit_kind.LastType.{LastType}
 use Rattle.ft_types.specs.declared.edit_kind.LastType.TheVariants.{Nothing, Title, Name, Frames}
 use Rattle.ft_types.specs.Edits.{IsGivable}
-use Rattle.ft_types.specs.Signatures.{signature, kind_named, kind_among, every_kind, IsOfType, AreOfTypes, IsNaturalBelow, natural_to, signed_to, clip, clipped, first_number, later_numbers, natural, at, padded}
-use Rattle.ft_types.specs.EditParts.{InParts, edit_parts, edit_with, edit_of, IsLast, FollowsTable, EditHasRanges, AreGiven}
+use Rattle.ft_types.specs.Signatures.{signature, kind_named, kind_among, every_kind, IsOfType, AreOfTypes, IsNaturalBelow, natural_to, signed_to, clip, clipped_numbers, first_number, later_numbers, natural, at, padded}
+use Rattle.ft_types.specs.EditParts.{InParts, edit_parts, edit_with, edit_of, IsLastPart, FollowsTable, EditHasRanges, AreGiven}
 
 -- ---- numbers
 
@@ -35,7 +35,7 @@ clip_kept I8 (negsuc n) is = negsuc_kept 127 n (omega (arith, is.sfits))
 clip_kept I16 (pos n) is = pos_kept 32767 n (omega (arith, is.sfits))
 clip_kept I16 (negsuc n) is = negsuc_kept 32767 n (omega (arith, is.sfits))
 
-clipped_kept : (ts : List NumberType) (ns : List ℤ) → AreOfTypes ts ns → clipped ts ns ≡ ns
+clipped_kept : (ts : List NumberType) (ns : List ℤ) → AreOfTypes ts ns → clipped_numbers ts ns ≡ ns
 clipped_kept [] [] are = refl
 clipped_kept [] (n ∷ ns) are = absurd are
 clipped_kept (t ∷ ts) [] are = absurd are
@@ -131,13 +131,13 @@ last_frames Title frames = []
 last_frames Name frames = []
 last_frames Frames frames = frames
 
-name_kept : (t : LastType) (name : List ℕ) (frames : List ℤ) → IsLast t name frames → last_name t name ≡ name
+name_kept : (t : LastType) (name : List ℕ) (frames : List ℤ) → IsLastPart t name frames → last_name t name ≡ name
 name_kept Nothing name frames is = sym is.0
 name_kept Title name frames is = padded_whole 20 name is.0.len
 name_kept Name name frames is = padded_whole 22 name is.0.len
 name_kept Frames name frames is = sym is.0
 
-frames_kept : (t : LastType) (name : List ℕ) (frames : List ℤ) → IsLast t name frames → last_frames t frames ≡ frames
+frames_kept : (t : LastType) (name : List ℕ) (frames : List ℤ) → IsLastPart t name frames → last_frames t frames ≡ frames
 frames_kept Nothing name frames is = sym is.1
 frames_kept Title name frames is = sym is.1
 frames_kept Name name frames is = sym is.1

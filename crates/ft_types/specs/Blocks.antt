@@ -7,7 +7,7 @@ use Rattle.ft_types.specs.declared.pattern.Pattern.{Pattern}
 use Rattle.ft_types.specs.declared.instrument.Instrument.{Instrument}
 use Rattle.ft_types.specs.declared.sample.Sample.{Sample}
 
--- so many parts in pieces of at most that size: the quotient, rounded up
+-- that many parts in pieces of at most that size: the quotient, rounded up
 abbrev pub pieces_of : ℕ → ℕ → ℕ
 pieces_of count size = (count + (size - 1)) / size
 

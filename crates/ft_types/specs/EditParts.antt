@@ -9,7 +9,7 @@ use Rattle.ft_types.specs.declared.edit_kind.LastType.{LastType}
 use Rattle.ft_types.specs.declared.edit_kind.LastType.TheVariants.{Nothing, Title, Name, Frames}
 use Rattle.ft_types.specs.Valid.{IsBytes}
 use Rattle.ft_types.specs.Edits.{IsGivable}
-use Rattle.ft_types.specs.Signatures.{signature, kind_named, AreOfTypes, clipped, natural, at, padded}
+use Rattle.ft_types.specs.Signatures.{signature, kind_named, AreOfTypes, clipped_numbers, natural, at, padded}
 
 -- what an edit does, its numbers in order, and its name and its frames, which are empty where it
 -- has none
@@ -22,11 +22,16 @@ pub record InParts : Type 0 where
 abbrev pub numbers_only : EditKind → List ℤ → InParts
 numbers_only kind numbers = record { kind = kind; numbers = numbers; name = []; frames = [] }
 
-abbrev pub with_name : EditKind → List ℤ → List ℕ → InParts
-with_name kind numbers name = record { kind = kind; numbers = numbers; name = name; frames = [] }
+abbrev pub parts_with_name : EditKind → List ℤ → List ℕ → InParts
+parts_with_name kind numbers name = record {
+  kind = kind;
+  numbers = numbers;
+  name = name;
+  frames = [];
+}
 
-abbrev pub with_frames : EditKind → List ℤ → List ℤ → InParts
-with_frames kind numbers frames =
+abbrev pub parts_with_frames : EditKind → List ℤ → List ℤ → InParts
+parts_with_frames kind numbers frames =
     record { kind = kind; numbers = numbers; name = []; frames = frames }
 
 -- the parts of an edit
@@ -48,12 +53,12 @@ edit_parts (edits.Delorder position) = numbers_only kinds.Delorder (pos position
 edit_parts (edits.Restart position) = numbers_only kinds.Restart (pos position ∷ [])
 edit_parts (edits.Tempo n) = numbers_only kinds.Tempo (pos n ∷ [])
 edit_parts (edits.Bpm n) = numbers_only kinds.Bpm (pos n ∷ [])
-edit_parts (edits.Title name) = with_name kinds.Title ([]) name
+edit_parts (edits.Title name) = parts_with_name kinds.Title ([]) name
 edit_parts (edits.Newpat n) = numbers_only kinds.Newpat (pos n ∷ [])
 edit_parts edits.Delpat = numbers_only kinds.Delpat ([])
 edit_parts edits.Newins = numbers_only kinds.Newins ([])
 edit_parts (edits.Clearins i) = numbers_only kinds.Clearins (pos i ∷ [])
-edit_parts (edits.Insname i name) = with_name kinds.Insname (pos i ∷ []) name
+edit_parts (edits.Insname i name) = parts_with_name kinds.Insname (pos i ∷ []) name
 edit_parts (edits.Map i n k) = numbers_only kinds.Map (pos i ∷ pos n ∷ pos k ∷ [])
 edit_parts (edits.Env i w count sus ls le flags) =
     numbers_only kinds.Env (pos i ∷ pos w ∷ pos count ∷ pos sus ∷ pos ls ∷ pos le ∷ pos flags ∷ [])
@@ -64,14 +69,14 @@ edit_parts (edits.Vib i kind sweep depth rate) =
 edit_parts (edits.Fade i n) = numbers_only kinds.Fade (pos i ∷ pos n ∷ [])
 edit_parts (edits.Newsmp i) = numbers_only kinds.Newsmp (pos i ∷ [])
 edit_parts (edits.Delsmp i) = numbers_only kinds.Delsmp (pos i ∷ [])
-edit_parts (edits.Smpname i s name) = with_name kinds.Smpname (pos i ∷ pos s ∷ []) name
+edit_parts (edits.Smpname i s name) = parts_with_name kinds.Smpname (pos i ∷ pos s ∷ []) name
 edit_parts (edits.Smp i s vol fine rel pan) =
     numbers_only kinds.Smp (pos i ∷ pos s ∷ pos vol ∷ fine ∷ rel ∷ pos pan ∷ [])
 edit_parts (edits.Loop i s kind start len) =
     numbers_only kinds.Loop (pos i ∷ pos s ∷ pos kind ∷ pos start ∷ pos len ∷ [])
 edit_parts (edits.Cut i s from to) = numbers_only kinds.Cut (pos i ∷ pos s ∷ pos from ∷ pos to ∷ [])
 edit_parts (edits.Paste i s at frames) =
-    with_frames kinds.Paste (pos i ∷ pos s ∷ pos at ∷ []) frames
+    parts_with_frames kinds.Paste (pos i ∷ pos s ∷ pos at ∷ []) frames
 edit_parts (edits.Reverse i s from to) =
     numbers_only kinds.Reverse (pos i ∷ pos s ∷ pos from ∷ pos to ∷ [])
 edit_parts (edits.Scale i s from to n d) =
@@ -79,11 +84,11 @@ edit_parts (edits.Scale i s from to n d) =
 edit_parts (edits.Bits i s b) = numbers_only kinds.Bits (pos i ∷ pos s ∷ pos b ∷ [])
 
 -- what comes behind the numbers is so
-abbrev pub IsLast : LastType → List ℕ → List ℤ → Type 0
-IsLast Nothing name frames = (name ≡ []) × (frames ≡ [])
-IsLast Title name frames = IsBytes 20 name × (frames ≡ [])
-IsLast Name name frames = IsBytes 22 name × (frames ≡ [])
-IsLast Frames name frames = (name ≡ []) × All (FitsSigned w16) frames
+abbrev pub IsLastPart : LastType → List ℕ → List ℤ → Type 0
+IsLastPart Nothing name frames = (name ≡ []) × (frames ≡ [])
+IsLastPart Title name frames = IsBytes 20 name × (frames ≡ [])
+IsLastPart Name name frames = IsBytes 22 name × (frames ≡ [])
+IsLastPart Frames name frames = (name ≡ []) × All (FitsSigned w16) frames
 
 -- 1 to 256 frames, where there are to be frames
 abbrev pub AreGiven : LastType → List ℤ → Type 0
@@ -93,7 +98,7 @@ AreGiven _ frames = Unit {0}
 -- parts as the table has them for their kind
 abbrev pub FollowsTable : InParts → Type 0
 FollowsTable p = AreOfTypes (signature p.kind).numbers p.numbers
-    × IsLast (signature p.kind).last p.name p.frames
+    × IsLastPart (signature p.kind).last p.name p.frames
 
 -- the values of an edit are in the ranges of their types
 abbrev pub EditHasRanges : Edit → Type 0
@@ -164,7 +169,7 @@ edit_with kinds.Bits ns name frames =
 
 -- the edit of these parts, whose numbers are brought into their types
 abbrev pub edit_of : InParts → Edit
-edit_of p = edit_with p.kind (clipped (signature p.kind).numbers p.numbers) p.name p.frames
+edit_of p = edit_with p.kind (clipped_numbers (signature p.kind).numbers p.numbers) p.name p.frames
 
 -- ---- the two ways are each other's inverse
 

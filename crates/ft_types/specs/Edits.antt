@@ -10,8 +10,8 @@ abbrev pub IsGivable : Edit → Type 0
 IsGivable (Paste i s at frames) = (1 ≤ length frames) × (length frames ≤ 256)
 IsGivable _ = Unit {0}
 
--- why an edit isn't appended to so many: it comes back, and is one too many exactly where there
+-- why an edit isn't appended to that many: it comes back, and is one too many exactly where there
 -- are 16
-abbrev pub HasCause : BatchFault → Edit → ℕ → Type 0
-HasCause (Over back) edit count = (back ≡ edit) × (count ≡ 16)
-HasCause (NoMemory back) edit count = (back ≡ edit) × (count < 16)
+abbrev pub IsPushRefused : BatchFault → Edit → ℕ → Type 0
+IsPushRefused (Over back) edit count = (back ≡ edit) × (count ≡ 16)
+IsPushRefused (NoMemory back) edit count = (back ≡ edit) × (count < 16)

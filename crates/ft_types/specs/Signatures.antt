@@ -126,15 +126,15 @@ abbrev pub later_numbers : List ℤ → List ℤ
 later_numbers [] = []
 later_numbers (n ∷ ns) = ns
 
--- the number behind so many others, or 0
+-- the number behind that many others, or 0
 abbrev pub at : List ℤ → ℕ → ℤ
 at ns zero = first_number ns
 at ns (suc i) = at (later_numbers ns) i
 
 -- one number for each type, 0 where it is missing or the type doesn't hold it
-abbrev pub clipped : List NumberType → List ℤ → List ℤ
-clipped [] ns = []
-clipped (t ∷ ts) ns = clip t (first_number ns) ∷ clipped ts (later_numbers ns)
+abbrev pub clipped_numbers : List NumberType → List ℤ → List ℤ
+clipped_numbers [] ns = []
+clipped_numbers (t ∷ ts) ns = clip t (first_number ns) ∷ clipped_numbers ts (later_numbers ns)
 
 -- the first `size` bytes; those that are missing are 0
 abbrev pub padded : ℕ → List ℕ → List ℕ

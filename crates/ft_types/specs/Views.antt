@@ -28,13 +28,13 @@ abbrev pub empty_cell : Cell
 empty_cell = record { note = 0; instrument = 0; volume = 0; effect = 0; parameter = 0 }
 
 -- a pattern that isn't stored has 64 rows
-abbrev pub rows_in : Option Pattern → ℕ
-rows_in None = 64
-rows_in (Some pattern) = pattern.rows
+abbrev pub row_count : Option Pattern → ℕ
+row_count None = 64
+row_count (Some pattern) = pattern.rows
 
 -- the rows of the pattern of a number
 abbrev pub rows_at : Module → ℕ → ℕ
-rows_at song pattern = rows_in (slice_get song.patterns pattern)
+rows_at song pattern = row_count (slice_get song.patterns pattern)
 
 -- the cell of a row and a channel; one is empty past the rows, and in a pattern that isn't stored
 abbrev pub cell_in : ℕ → Option Pattern → ℕ → ℕ → Cell
@@ -134,7 +134,7 @@ abbrev pub frame_of : Option Owned → ℕ → ℤ
 frame_of None place = pos 0
 frame_of (Some owned) place = get_or owned.sample.frames place (pos 0)
 
--- frames that stand from a place on of it
+-- its frames from a place on
 abbrev pub AreFramesFrom : Option Owned → ℕ → List ℤ → Type 0
 AreFramesFrom owned first frames =
     (k : ℕ) → k < length frames → get_or frames k (pos 0) ≡ frame_of owned (first + k)
@@ -156,7 +156,7 @@ pub record Shown : Type 0 where
 abbrev pub keeping : ℕ → Option Owned → Shown → Shown
 keeping channel owned shown = record shown { kept = set shown.kept channel owned }
 
--- what a view may show: what it shows where something stands behind it
+-- what a view may show: what it shows where something is behind it
 abbrev pub MayShow : {V W : Type 0}
     → (V → W → Type 0) → (V → W → Shown) → V → Shown → Type 0
 MayShow {W = W} shows shown view it = (w : W) × shows view w × (shown view w ≡ it)

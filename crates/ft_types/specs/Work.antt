@@ -30,7 +30,7 @@ frame_bound = 3
 
 -- ---- kept words of frames
 
--- four frames stand in a word
+-- a word has four frames
 abbrev pub word_of : ℕ → ℕ
 word_of place = place / 4
 
@@ -59,7 +59,7 @@ frame_cost word words =
 
 -- ---- runs of frames
 
--- the word of the last of so many frames, of which there is one at least, from a place on
+-- the word of the last of that many frames, of which there is one at least, from a place on
 abbrev pub last_word : ℕ → ℕ → ℕ
 last_word first many = word_of (first + many - 1)
 

@@ -2,7 +2,7 @@
 
 ghost use Rattle.std.specs.Prelude.{◌≡◌, ◌+◌, ◌<◌, ◌↔◌, [], ◌∷◌, ◌++◌, length, slice_get, OnOk, OnErr, IfOk, IfErr};
 ghost use Rattle.std.specs.Option.{option_copied};
-ghost use Rattle.ft_types.specs.Edits.{HasCause};
+ghost use Rattle.ft_types.specs.Edits.{IsPushRefused};
 
 use crate::edit::Edit;
 use crate::no_memory::NoMemory;
@@ -41,7 +41,7 @@ pub enum BatchFault {
         /// The edit that is one too many.
         edit: Edit,
     },
-    /// Memory was wanting. No clause says when.
+    /// Out of memory. No clause says when.
     #[error("out of memory")]
     NoMemory {
         /// The edit that wasn't appended.
@@ -85,7 +85,7 @@ impl Batch {
     pub fn push(&mut self, edit: Edit) -> Result<(), BatchFault>
         ensures ok { OnOk result (self.new ≡ self.old ++ edit ∷ []) }
         ensures err { OnErr result (self.new ≡ self.old) }
-        ensures cause { IfErr result (λ fault. HasCause fault edit (length self.old)) }
+        ensures cause { IfErr result (λ fault. IsPushRefused fault edit (length self.old)) }
         ensures room { OnOk result (length self.old < 16) }
     {
         if self.edits.len() == MOST_EDITS {

@@ -20,7 +20,7 @@ pub enum CommitFault {
         /// The current version, which is the greatest u32.
         version: u32,
     },
-    /// Memory was wanting. No clause says when.
+    /// Out of memory. No clause says when.
     #[error("out of memory")]
     NoMemory,
     /// The batch needs more segments than are free.

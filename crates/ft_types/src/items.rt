@@ -103,7 +103,7 @@ impl<T> Items<T> {
 }
 
 impl<T: Drop> Items<T> {
-    /// Appends `x`. Where memory is wanting the list stays as it was.
+    /// Appends `x`. Where memory runs out the list stays as it was.
     pub fn push(&mut self, x: T) -> Result<(), NoMemory>
         ensures ok { OnOk result (self.new ≡ self.old ++ x ∷ []) }
         ensures err { OnErr result (self.new ≡ self.old) }
@@ -112,8 +112,8 @@ impl<T: Drop> Items<T> {
         Ok(())
     }
 
-    /// Puts `x` before the place `i`, which may be the end. Where memory is wanting the list stays
-    /// as it was.
+    /// Puts `x` before the place `i`, which may be the end. Where memory runs out the list stays as
+    /// it was.
     pub fn insert(&mut self, i: usize, x: T) -> Result<(), NoMemory>
         requires { i ≤ length self.old }
         ensures ok { OnOk result (self.new ≡ insert self.old i x) }

@@ -99,7 +99,7 @@ impl Journal {
         self.refusals.get(i)
     }
 
-    /// Makes room for one more in both lists, which stay as they are, also where memory is wanting.
+    /// Makes room for one more in both lists, which stay as they are, also where memory runs out.
     pub fn reserve(&mut self) -> Result<(), NoMemory>
         ensures entries { self.new.entries ≡ self.old.entries }
         ensures refusals { self.new.refusals ≡ self.old.refusals }

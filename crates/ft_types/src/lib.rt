@@ -6,9 +6,9 @@
 //! defined in `specs/`: `valid` answers it, and `blocks` says how many blocks a
 //! valid module takes. Neither takes memory.
 //!
-//! An `Edit` is a change of a module that is asked for, a `Batch` some edits that are
-//! committed together, and a `Journal` what was committed and what was refused. A
-//! `TickReport` names the version behind a tick that was played.
+//! An `Edit` is a change of a module that is asked for, a `Batch` some edits that are committed
+//! together, and a `Journal` what was committed and what was refused. A `TickReport` names the
+//! version of a tick that was played.
 #![tactic(auto)]
 
 mod batch;

@@ -1,8 +1,8 @@
-//! Want of memory, as one value of its own.
+//! Running out of memory, as one value of its own.
 
 use std::alloc::{AllocError, AllocFailed};
 
-/// Memory was wanting. No clause says when this comes: it is the one free answer.
+/// Out of memory. No clause says when this comes: it is the one free answer.
 #[derive(Clone, Copy, Debug, PartialEq, Eq)]
 pub struct NoMemory;
 

@@ -17,7 +17,7 @@ pub struct Pattern {
     pub cells: Cells,
 }
 
-/// What one channel is told in one row. A cell of five 0 bytes is empty.
+/// What one row says to one channel. A cell of five 0 bytes is empty.
 #[derive(Clone, Copy, Debug, PartialEq, Eq)]
 pub struct Cell {
     /// 0 for none, 1 to 96 for C-0 to B-7, 97 for a key off.

@@ -8,7 +8,7 @@ use crate::module::Module;
 use crate::pattern::{Cell, Pattern};
 use crate::sample::Sample;
 
-/// Whether these are so many raw bytes; any bytes will do.
+/// Whether these are that many raw bytes; any bytes will do.
 fn is_bytes(bytes: &[u8], count: usize) -> bool
     ensures { IsTrue result ↔ IsBytes count bytes.now }
 {
@@ -29,7 +29,7 @@ fn has_valid_cells(cells: &[Cell]) -> bool
     cells.iter().all(|cell| is_valid_cell(*cell))
 }
 
-/// Whether a pattern is valid in a song of so many channels.
+/// Whether a pattern is valid in a song of that many channels.
 fn is_valid_pattern(pattern: &Pattern, channels: u8) -> bool
     ensures { IsTrue result ↔ IsValidPattern channels pattern.now }
 {
@@ -42,7 +42,7 @@ fn is_valid_pattern(pattern: &Pattern, channels: u8) -> bool
     has_valid_cells(pattern.cells.as_slice())
 }
 
-/// Whether each pattern is valid in a song of so many channels.
+/// Whether each pattern is valid in a song of that many channels.
 fn has_valid_patterns(patterns: &[Pattern], channels: u8) -> bool
     ensures { IsTrue result ↔ All (IsValidPattern channels) patterns.now }
 {

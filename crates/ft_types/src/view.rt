@@ -12,19 +12,19 @@ use crate::voice::SampleHead;
 
 /// Shows one version of a song, and keeps for each channel the sample that its voice began with.
 ///
-/// A view has a number of channels. Each call says what it answers for whatever may stand behind the
-/// view after the call, and that this could stand behind it before: a call never widens what a view
-/// may show. What is said without it holds whatever stands behind the view: the ranges of answers,
+/// A view has a number of channels. Each call says what it answers for whatever may be behind the
+/// view after the call, and that this could be behind it before: a call never widens what a view
+/// may show. What is said without it holds whatever is behind the view: the ranges of answers,
 /// which channels keep a sample and of which head, and the work. No call takes memory.
 pub trait SongView {
     ghost use Rattle.ft_types.specs.declared.voice.SampleHead.{SampleHead};
 
-    // What may stand behind the view, as a history of versions.
+    // What may be behind the view, as a history of versions.
     type World;
 
     ghost shows: { Self → Self.World → Type 0 };
 
-    // What it shows where this stands behind it.
+    // What it shows where this is behind it.
     ghost shown: { Self → Self.World → Shown };
 
     // On which channels it keeps a sample.

@@ -34,7 +34,7 @@ fn silent_song(alloc: Global) -> Result<Module, Fail> {
     })
 }
 
-/// An instrument whose one sample has no loop and so many frames.
+/// An instrument whose one sample has no loop and that many frames.
 fn instrument_of(alloc: Global, frames: usize) -> Result<Instrument, Fail> {
     let envelope = Envelope {
         points: [Point { x: 0, y: 0 }; 12],

@@ -96,7 +96,7 @@ named_is a ws m id texts s exact read is =
 abbrev pub IsNumberIn : App → List Text → Text → ℕ → ℕ → ℕ → Type 0
 IsNumberIn a ws id low high n = IsNumberOf a ws id n × (low ≤ n) × (n ≤ high)
 
--- where numbers have so many bits
+-- where numbers have that many bits
 module _ (E : Type 0) (ReadsNumber : Text → Result ℕ E → Type 0) (bits : ℕ)
     (only : (u : Text) (x : Result ℕ E) → ReadsNumber u x → ParsesUnsigned bits 10 u x)
     (a : App) (k : ℕ) (r : Rule) (ws : List Text) (m : ArgMatches) (low high : ℕ) (g : IsArgument a k r)

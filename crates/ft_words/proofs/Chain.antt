@@ -44,7 +44,7 @@ all_simple verb.Step = refl
 all_simple verb.Copy = refl
 all_simple verb.Gen = refl
 
--- an error of a kind other than want of memory tells of a fault
+-- an error of a kind other than running out of memory names a fault
 pub fault_told : (kinds : Kinds) (e : Error) → HasKind kinds e → (kind_of e ≡ kind.OutOfMemory → ⊥) → kinds ≢ []
 fault_told [] e (inl memory) other = absurd (other memory)
 fault_told [] e (inr among) other = absurd among

@@ -10,7 +10,7 @@ use Rattle.ft_words.specs.declared.answer.Step.{Step}
 use Rattle.ft_words.specs.declared.verb.Verb.{Verb}
 use Rattle.ft_words.specs.declared.verb.Verb.TheVariants as verb
 
--- the text is a numeral in decimal digits, where a plus may stand first, and n is its number
+-- the text is a numeral in decimal digits, where a plus may come first, and n is its number
 abbrev pub IsNumeralOf : Text → ℕ → Type 0
 IsNumeralOf t n = IsNumeral 10 (without_leading_plus t)
     × (n ≡ digits_value 10 (without_leading_plus t))

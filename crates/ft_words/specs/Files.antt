@@ -21,7 +21,7 @@ pub record NamesStep (others : List Text) (files : FileNames) : Type 0 where
   pub ledger : IsNamed step_app others (codes "ledger") files.ledger
   pub scripts : files.scripts ≡ []
 
--- `copy SONG OUT`: OUT stands as the WAV file does
+-- `copy SONG OUT`: OUT takes the place of the WAV file
 pub record NamesCopy (others : List Text) (files : FileNames) : Type 0 where
   pub taken : fault_of copy_app others ≡ []
   pub song : IsNamed copy_app others (codes "song") files.song
@@ -29,7 +29,7 @@ pub record NamesCopy (others : List Text) (files : FileNames) : Type 0 where
   pub ledger : files.ledger ≡ []
   pub scripts : files.scripts ≡ []
 
--- `gen NUMBER OUT`: OUT stands as the WAV file does
+-- `gen NUMBER OUT`: OUT takes the place of the WAV file
 pub record NamesGen (others : List Text) (files : FileNames) : Type 0 where
   pub taken : fault_of gen_app others ≡ []
   pub song : files.song ≡ []

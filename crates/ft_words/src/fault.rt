@@ -10,7 +10,7 @@ pub enum NamesFault {
     /// The words are no command.
     #[error("usage")]
     Usage,
-    /// Memory was wanting.
+    /// Out of memory.
     #[error("out of memory")]
     NoMemory,
 }

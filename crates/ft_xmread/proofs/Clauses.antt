@@ -40,7 +40,7 @@ valid file (Err f) bytes a law = tt
 abbrev IsWanting : XmFault → Type 0
 IsWanting f = f ≡ faults.NoMemory
 
--- a fault that is answered is given by the file, or memory is wanting
+-- a fault that is answered is given by the file, or memory runs out
 given_fault : (file : List ℕ) (f : XmFault) → Answers (Err f) (song_in file) → IsWanting f ⊎ (song_in file ≡ Err f)
 given_fault file (faults.NotXm at) a = inr a
 given_fault file (faults.Version found) a = inr a

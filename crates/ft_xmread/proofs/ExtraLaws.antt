@@ -1,4 +1,4 @@
--- The two laws of what stands in the head of an instrument with samples.
+-- The two laws of what is in the head of an instrument with samples.
 use Rattle.std.proofs.Common.{ℕ, List, refl}
 use Rattle.ft_types.specs.declared.instrument.Point.{Point}
 use Rattle.ft_types.specs.declared.instrument.Vibrato.{Vibrato}
@@ -8,8 +8,8 @@ use Rattle.ft_format.specs.declared.instrument.Shapes.{Shapes}
 use Rattle.ft_format.specs.declared.instrument.Envelopes.{Envelopes}
 use Rattle.ft_format.specs.declared.instrument.Extra.{Extra}
 use Rattle.ft_format.specs.Instrument.{point_text, pair_text, turns_text, vibrato_text, shapes_of, shapes_text, envelopes_text, extra_text, PointFits, PairFits, TurnsFit, VibratoFits, ShapesFit, EnvelopesFit, ExtraFits}
-use Rattle.ft_xmread.specs.Reader.{Reading, field_at, number_at, seen}
-use Rattle.ft_xmread.specs.Instrument.{point_at, points_at, pair_at, turns_at, vibrato_at, shapes_at, shaped, envelopes_at, extra_at}
+use Rattle.ft_xmread.specs.Reader.{FileReading, field_at, number_at, seen}
+use Rattle.ft_xmread.specs.Instrument.{point_spelled_at, points_at, pair_at, turns_at, vibrato_at, shapes_at, shaped, envelopes_at, extra_at}
 use Rattle.ft_xmread.proofs.Chains.{both2, both3, both4, both5, alike2, alike3, alike4, alike5}
 use Rattle.ft_xmread.proofs.Lawful.{Lawful, Alike, alike_law, field_law, byte_law, u16_law, u32_law, pair_law, seen_law, times_law}
 
@@ -18,16 +18,16 @@ use Rattle.ft_xmread.proofs.Lawful.{Lawful, Alike, alike_law, field_law, byte_la
 abbrev make_point : ℕ → ℕ → Point
 make_point x y = record { x = x; y = y }
 
-abbrev point_parts : Reading Point
+abbrev point_parts : FileReading Point
 point_parts = seen (λ x. make_point x.0 x.1) (both2 (number_at 2) (number_at 2))
 
-point_alike : Alike point_at point_parts
-unfolding point_at
+point_alike : Alike point_spelled_at point_parts
+unfolding point_spelled_at
 point_alike = alike2 (number_at 2) (number_at 2) make_point
 
-point_law : Lawful point_at point_text PointFits
+point_law : Lawful point_spelled_at point_text PointFits
 point_law =
-    alike_law point_at point_parts point_text PointFits point_alike (seen_law _ (λ point. (point.x, point.y)) _ _ _
+    alike_law point_spelled_at point_parts point_text PointFits point_alike (seen_law _ (λ point. (point.x, point.y)) _ _ _
     point_text PointFits (pair_law _ _ _ _ _ _ u16_law u16_law)
     (λ x f. (record { x = f.0; y = f.1 }, refl))
     (λ y g. ((g.x, g.y), refl, refl)))
@@ -35,7 +35,7 @@ point_law =
 abbrev make_pair : ℕ → ℕ → Pair
 make_pair volume panning = record { volume = volume; panning = panning }
 
-abbrev pair_parts : Reading Pair
+abbrev pair_parts : FileReading Pair
 pair_parts = seen (λ x. make_pair x.0 x.1) (both2 (number_at 1) (number_at 1))
 
 pair_alike : Alike pair_at pair_parts
@@ -52,7 +52,7 @@ two_law =
 abbrev make_turns : ℕ → ℕ → ℕ → Turns
 make_turns sustain loop_start loop_end = record { sustain = sustain; loop_start = loop_start; loop_end = loop_end }
 
-abbrev turns_parts : Reading Turns
+abbrev turns_parts : FileReading Turns
 turns_parts = seen (λ x. make_turns x.0 x.1.0 x.1.1) (both3 (number_at 1) (number_at 1) (number_at 1))
 
 turns_alike : Alike turns_at turns_parts
@@ -70,7 +70,7 @@ turns_law =
 abbrev make_vibrato : ℕ → ℕ → ℕ → ℕ → Vibrato
 make_vibrato kind sweep depth rate = record { kind = kind; sweep = sweep; depth = depth; rate = rate }
 
-abbrev vibrato_parts : Reading Vibrato
+abbrev vibrato_parts : FileReading Vibrato
 vibrato_parts =
     seen (λ x. make_vibrato x.0 x.1.0 x.1.1.0 x.1.1.1) (both4 (number_at 1) (number_at 1) (number_at 1) (number_at 1))
 
@@ -91,7 +91,7 @@ vibrato_law =
 abbrev make_shapes : Pair → Turns → Turns → Pair → Shapes
 make_shapes counts volume panning flags = record { counts = counts; volume = volume; panning = panning; flags = flags }
 
-abbrev shapes_parts : Reading Shapes
+abbrev shapes_parts : FileReading Shapes
 shapes_parts = seen (λ x. make_shapes x.0 x.1.0 x.1.1.0 x.1.1.1) (both4 pair_at turns_at turns_at pair_at)
 
 shapes_alike : Alike shapes_at shapes_parts
@@ -113,7 +113,7 @@ make_envelopes volume panning shapes =
       panning = shaped panning shapes.counts.panning shapes.panning shapes.flags.panning;
     }
 
-abbrev envelopes_parts : Reading Envelopes
+abbrev envelopes_parts : FileReading Envelopes
 envelopes_parts = seen (λ x. make_envelopes x.0 x.1.0 x.1.1) (both3 points_at points_at shapes_at)
 
 envelopes_alike : Alike envelopes_at envelopes_parts
@@ -124,8 +124,8 @@ envelopes_law : Lawful envelopes_at envelopes_text EnvelopesFit
 envelopes_law = alike_law envelopes_at envelopes_parts envelopes_text EnvelopesFit envelopes_alike
     (seen_law _ (λ envelopes. (envelopes.volume.points, (envelopes.panning.points, shapes_of envelopes))) _ _ _
     envelopes_text EnvelopesFit
-    (pair_law _ _ _ _ _ _ (times_law (λ _. point_at) point_text PointFits (λ _. point_law) 0 12)
-    (pair_law _ _ _ _ _ _ (times_law (λ _. point_at) point_text PointFits (λ _. point_law) 0 12) shapes_law))
+    (pair_law _ _ _ _ _ _ (times_law (λ _. point_spelled_at) point_text PointFits (λ _. point_law) 0 12)
+    (pair_law _ _ _ _ _ _ (times_law (λ _. point_spelled_at) point_text PointFits (λ _. point_law) 0 12) shapes_law))
     (λ x f. (record { volume = f.0; panning = f.1.0; shapes = f.1.1 }, refl))
     (λ y g. ((g.volume, (g.panning, g.shapes)), refl, refl)))
 
@@ -135,7 +135,7 @@ abbrev make_extra : ℕ → List ℕ → Envelopes → Vibrato → ℕ → Extra
 make_extra header_size map envelopes vibrato fadeout =
     record { header_size = header_size; map = map; envelopes = envelopes; vibrato = vibrato; fadeout = fadeout }
 
-abbrev extra_parts : Reading Extra
+abbrev extra_parts : FileReading Extra
 extra_parts =
     seen (λ x. make_extra x.0 x.1.0 x.1.1.0 x.1.1.1.0 x.1.1.1.1)
     (both5 (number_at 4) (field_at 96) envelopes_at vibrato_at (number_at 2))

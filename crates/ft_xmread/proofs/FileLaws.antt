@@ -11,8 +11,8 @@ use Rattle.ft_format.specs.Spelling.{RawSong, identification_with, song_text, So
 use Rattle.ft_xmread.specs.declared.fault.XmFault.{XmFault}
 use Rattle.ft_xmread.specs.declared.fault.XmFault.TheVariants as faults
 use Rattle.ft_xmread.specs.Identification.{stands, wrong_from, unless_wrong, identification_at}
-use Rattle.ft_xmread.specs.Reader.{Place, ◌>>=◌, field_at}
-use Rattle.ft_xmread.specs.File.{song_at, value_of, song_in}
+use Rattle.ft_xmread.specs.Reader.{FilePlace, ◌>>=◌, field_at}
+use Rattle.ft_xmread.specs.File.{song_spelled_at, value_of, song_in}
 use Rattle.ft_xmread.specs.Song.{IsFirstWrong}
 use Rattle.ft_xmread.proofs.Lawful.{field_again, bind_ok, field_law}
 use Rattle.ft_xmread.proofs.Quiet.{fails, same_fault, value_quiet, song_quiet}
@@ -56,15 +56,15 @@ identified piece len all =
     ext_get_or 0 piece (with_letter_of piece) len
     (λ i lt. byte_step piece i (nat_eq i 9) refl (all i (omega arith) (omega arith)))
 
-unless_ok : (at : ℕ) (o : Option ℕ) (x y : ℕ × Place) → unless_wrong at o x ≡ Ok y → (o ≡ None) × (x ≡ y)
+unless_ok : (at : ℕ) (o : Option ℕ) (x y : ℕ × FilePlace) → unless_wrong at o x ≡ Ok y → (o ≡ None) × (x ≡ y)
 unless_ok at None x y e = (refl, cc)
 unless_ok at (Some k) x y e = absurd cc
 
-abbrev front_of : List ℕ → Place
+abbrev front_of : List ℕ → FilePlace
 front_of file = record { at = 0; left = file }
 
--- what stood at the front of a file that passes
-record Passed (file : List ℕ) (letter : ℕ × Place) : Type 0 where
+-- what was at the front of a file that passes
+record Passed (file : List ℕ) (letter : ℕ × FilePlace) : Type 0 where
   is : IsLetter letter.0
   parts : file ≡ identification_with letter.0 ++ letter.1.left
   bytes : AreBytes letter.1.left
@@ -77,7 +77,7 @@ passed_step file piece left at e len all bytes = record {
   bytes = bytes;
 }
 
-id_takes : (file : List ℕ) (letter : ℕ × Place) → AreBytes file → identification_at (front_of file) ≡ Ok letter
+id_takes : (file : List ℕ) (letter : ℕ × FilePlace) → AreBytes file → identification_at (front_of file) ≡ Ok letter
     → Passed file letter
 unfolding identification_at
 id_takes file letter bytes e =
@@ -102,11 +102,11 @@ id_again letter rest is = rw (field_again 0 (identification_with letter) rest 17
 stands_in : (file : List ℕ) (k : ℕ) → k < 17 → stands (take 17 file) k ≡ stands file k
 stands_in file k lt = rw (get_or-take 17 file k 0 lt) refl
 
-unless_wrong_is : (o : Option ℕ) (x : ℕ × Place) (at : ℕ) → unless_wrong 0 o x ≡ Err (faults.NotXm at) → o ≡ Some at
+unless_wrong_is : (o : Option ℕ) (x : ℕ × FilePlace) (at : ℕ) → unless_wrong 0 o x ≡ Err (faults.NotXm at) → o ≡ Some at
 unless_wrong_is None x at e = absurd cc
 unless_wrong_is (Some k) x at e = let same : 0 + k ≡ at = cc in ap (λ (i : ℕ). Some i) (omega (arith, same))
 
-wrong_step : (file : List ℕ) (at : ℕ) (b : Bool) (x : ℕ × Place) → ltb (length file) 17 ≡ b
+wrong_step : (file : List ℕ) (at : ℕ) (b : Bool) (x : ℕ × FilePlace) → ltb (length file) 17 ≡ b
     → cond b (Err (faults.Short 0 17)) (unless_wrong 0 (wrong_from 0 17 (take 17 file)) x) ≡ Err (faults.NotXm at)
     → IsFirstWrong file at
 wrong_step file at true x b e = absurd cc
@@ -203,8 +203,8 @@ gives_song file song bytes e =
       means = t.value ∙ s.2;
     }
 
-abbrev song_behind : ℕ × Place → Result (Module × Place) XmFault
-song_behind letter = song_at letter.1
+abbrev song_behind : ℕ × FilePlace → Result (Module × FilePlace) XmFault
+song_behind letter = song_spelled_at letter.1
 
 gives_step : (file : List ℕ) (raw : RawSong) (surplus : List ℕ) → SongFits raw
     → file ≡ identification_with raw.letter ++ (parts_text (parts_of raw) ++ surplus)
@@ -226,33 +226,33 @@ song_gives file song s =
 
 -- ---- the identification's fault
 
-not_xm_step : (r : Result (ℕ × Place) XmFault) (at : ℕ)
+not_xm_step : (r : Result (ℕ × FilePlace) XmFault) (at : ℕ)
     → value_of (r >>= song_behind) ≡ fails {A = Module} (faults.NotXm at) → r ≡ Err (faults.NotXm at)
-not_xm_step (Ok letter) at e = absurd (value_quiet (song_at letter.1) (faults.NotXm at) (song_quiet letter.1) e)
+not_xm_step (Ok letter) at e = absurd (value_quiet (song_spelled_at letter.1) (faults.NotXm at) (song_quiet letter.1) e)
 not_xm_step (Err d) at e = ap (λ (f : XmFault). Err f) (same_fault {A = Module} d (faults.NotXm at) e)
 
 pub gives_wrong : (file : List ℕ) (at : ℕ) → song_in file ≡ Err (faults.NotXm at) → IsFirstWrong file at
 unfolding song_in
 gives_wrong file at e = id_wrong file at (not_xm_step (identification_at (front_of file)) at e)
 
--- ---- no want of memory
+-- ---- no running out of memory
 
 abbrev Wants : {A : Type 0} → Result A XmFault → Type 0
 Wants {A = A} r = r ≡ fails {A = A} faults.NoMemory
 
-unless_has_memory : (at : ℕ) (o : Option ℕ) (x : ℕ × Place) → Wants (unless_wrong at o x) → ⊥
+unless_has_memory : (at : ℕ) (o : Option ℕ) (x : ℕ × FilePlace) → Wants (unless_wrong at o x) → ⊥
 unless_has_memory at None x e = absurd cc
 unless_has_memory at (Some k) x e = absurd cc
 
-id_step : (b : Bool) (o : Option ℕ) (x : ℕ × Place) → Wants (cond b (Err (faults.Short 0 17)) (unless_wrong 0 o x)) → ⊥
+id_step : (b : Bool) (o : Option ℕ) (x : ℕ × FilePlace) → Wants (cond b (Err (faults.Short 0 17)) (unless_wrong 0 o x)) → ⊥
 id_step true o x e = absurd cc
 id_step false o x e = unless_has_memory 0 o x e
 
 id_has_memory : (file : List ℕ) → Wants (identification_at (front_of file)) → ⊥
 id_has_memory file e = id_step (ltb (length file) 17) (wrong_from 0 17 (take 17 file)) _ (sym (id_is file) ∙ e)
 
-memory_step : (r : Result (ℕ × Place) XmFault) → (Wants r → ⊥) → Wants (value_of (r >>= song_behind)) → ⊥
-memory_step (Ok letter) front e = absurd (value_quiet (song_at letter.1) faults.NoMemory (song_quiet letter.1) e)
+memory_step : (r : Result (ℕ × FilePlace) XmFault) → (Wants r → ⊥) → Wants (value_of (r >>= song_behind)) → ⊥
+memory_step (Ok letter) front e = absurd (value_quiet (song_spelled_at letter.1) faults.NoMemory (song_quiet letter.1) e)
 memory_step (Err d) front e = front (ap (λ (f : XmFault). Err f) (same_fault {A = Module} d faults.NoMemory e))
 
 pub has_memory : (file : List ℕ) → song_in file ≡ Err faults.NoMemory → ⊥

@@ -7,11 +7,11 @@ use Rattle.ft_types.specs.declared.sample.Sample.{Sample}
 use Rattle.ft_format.specs.declared.instrument.InstrumentHead.{InstrumentHead}
 use Rattle.ft_format.specs.declared.instrument.Extra.{Extra}
 use Rattle.ft_format.specs.declared.layout.TheConstants.{NO_EXTRA}
-use Rattle.ft_format.specs.Fields.{u32, IsNumber, IsField, AllFit, FitsWithin}
+use Rattle.ft_format.specs.Fields.{four_bytes, IsNumber, IsField, AllFit, FitsWithin}
 use Rattle.ft_format.specs.Sample.{RawSample, RawSampleFits, sample_from}
 use Rattle.ft_format.specs.Instrument.{head_text, HeadFits, extra_text, ExtraFits, RawRest, RawInstrument, rest_text, instrument_text, LongFits, ShortFits, RestFits, RawInstrumentFits, instrument_with, instrument_of}
 use Rattle.ft_xmread.specs.declared.fault.XmFault.TheVariants.{Count}
-use Rattle.ft_xmread.specs.Reader.{Reading, field_at, number_at, count_at, checked, seen, in_piece}
+use Rattle.ft_xmread.specs.Reader.{FileReading, field_at, number_at, count_at, checked, seen, in_piece}
 use Rattle.ft_xmread.specs.Instrument.{head_at, is_cut, sized_head_at, extra_at, headers_and_samples_at, short_rest_at, long_rest_at, rest_at, instrument_spelled_at}
 use Rattle.ft_xmread.proofs.Numbers.{not_lt, fits_limit}
 use Rattle.ft_xmread.proofs.Chains.{both4, alike2, alike4}
@@ -35,7 +35,7 @@ FieldsFit head =
 abbrev make_head : ℕ → List ℕ → ℕ → ℕ → Head
 make_head size name kind samples = record { size = size; name = name; kind = kind; samples = samples }
 
-abbrev head_parts : Reading Head
+abbrev head_parts : FileReading Head
 head_parts =
     seen (λ x. make_head x.0 x.1.0 x.1.1.0 x.1.1.1)
     (both4 (checked low_size Count (number_at 4)) (field_at 22) (number_at 1) (count_at 16))
@@ -46,7 +46,7 @@ head_alike = alike4 (checked low_size Count (number_at 4)) (field_at 22) (number
 
 parts_head_law : Lawful head_parts head_text FieldsFit
 parts_head_law = kept_law _ (λ head. (head.size, (head.name, (head.kind, head.samples)))) _ _ _
-    (pair_law _ _ _ _ _ _ (checked_law low_size Count (number_at 4) u32 (IsNumber 4) u32_law)
+    (pair_law _ _ _ _ _ _ (checked_law low_size Count (number_at 4) four_bytes (IsNumber 4) u32_law)
     (pair_law _ _ _ _ _ _ (field_law 22) (pair_law _ _ _ _ _ _ byte_law (count_law 16))))
     (λ _ _. refl) (λ _. refl)
 
@@ -76,7 +76,7 @@ head_law = refit_law _ head_text (Passes FieldsFit is_cut) HeadFits
       not_cut x.samples x.size g.long,
     ))
 
--- ---- what stands behind the first 29 bytes
+-- ---- what follows the first 29 bytes
 
 abbrev mean_of : RawSample → Sample
 mean_of raw = sample_from raw.header raw.steps
@@ -84,7 +84,7 @@ mean_of raw = sample_from raw.header raw.steps
 abbrev rest_mean : Head → RawRest → Instrument
 rest_mean head rest = instrument_with head rest.extra (map mean_of rest.samples)
 
-abbrev short_at : Head → Reading Instrument
+abbrev short_at : Head → FileReading Instrument
 short_at head = seen (λ (_ : List ℕ). instrument_with head NO_EXTRA []) (field_at (head.size - 29))
 
 abbrev short_of : List ℕ → RawRest
@@ -116,7 +116,7 @@ PartsFit head x = FitsWithin (head.size - 29) extra_text ExtraFits x.0 × AllFit
 abbrev long_mean : Long → (Extra × List ℕ) × List Sample
 long_mean x = ((x.0.0, x.0.1), map mean_of x.1)
 
-abbrev parts_at : ℕ → Head → Reading ((Extra × List ℕ) × List Sample)
+abbrev parts_at : ℕ → Head → FileReading ((Extra × List ℕ) × List Sample)
 parts_at number head = both (in_piece (head.size - 29) extra_at) (λ _. headers_and_samples_at number head.samples)
 
 parts_law : (number : ℕ) (head : Head) → Spelled (parts_at number head) long_text (PartsFit head) long_mean
@@ -146,7 +146,7 @@ long_law number head =
     (λ x f. (record { extra = f.0; samples = f.1 }, refl, refl))
     (λ y g. ((g.extra, g.samples), refl, refl))
 
-abbrev rest_if : Bool → ℕ → Head → Reading Instrument
+abbrev rest_if : Bool → ℕ → Head → FileReading Instrument
 rest_if none number head p = cond none (short_rest_at head p) (long_rest_at number head p)
 
 short_alike : (head : Head) → Alike (short_rest_at head) (short_at head)

@@ -3,19 +3,19 @@ use Rattle.std.proofs.Common.{◌≡◌, ℕ, suc, ◌-◌, ◌+◌, ◌≤◌, 
 use Rattle.std.proofs.lemmas.List.{append-nil}
 use Rattle.ft_xmread.specs.declared.fault.XmFault.{XmFault}
 use Rattle.ft_xmread.specs.declared.fault.XmFault.TheVariants as faults
-use Rattle.ft_xmread.specs.Reader.{Place, Reading, ◌>>=◌, Fails, times}
+use Rattle.ft_xmread.specs.Reader.{FilePlace, FileReading, ◌>>=◌, FileFails, times}
 
 -- what was read before, and what is still read
-abbrev pub with_front : {A : Type 0} → List A → Result (List A × Place) XmFault → Result (List A × Place) XmFault
+abbrev pub with_front : {A : Type 0} → List A → Result (List A × FilePlace) XmFault → Result (List A × FilePlace) XmFault
 with_front front read = read >>= λ x. Ok (front ++ x.0, x.1)
 
-pub regroup : {A : Type 0} (front : List A) (x : A) (read : Result (List A × Place) XmFault)
+pub regroup : {A : Type 0} (front : List A) (x : A) (read : Result (List A × FilePlace) XmFault)
     → with_front front (read >>= λ y. Ok (x ∷ y.0, y.1)) ≡ with_front (front ++ x ∷ []) read
 regroup {A = A} front x (Ok y) = ap (λ (xs : List A). Ok (xs, y.1)) (simp append_assoc)
 regroup front x (Err f) = refl
 
-pub goes_on : {A : Type 0} (one : ℕ → Reading A) (front : List A) (count i : ℕ) (p : Place) (x : A) (after : Place)
-    (total : Result (List A × Place) XmFault) → i < count → one i p ≡ Ok (x, after)
+pub goes_on : {A : Type 0} (one : ℕ → FileReading A) (front : List A) (count i : ℕ) (p : FilePlace) (x : A) (after : FilePlace)
+    (total : Result (List A × FilePlace) XmFault) → i < count → one i p ≡ Ok (x, after)
     → with_front front (times one i (count - i) p) ≡ total
     → with_front (front ++ x ∷ []) (times one (i + 1) (count - (i + 1)) after) ≡ total
 unfolding times
@@ -27,8 +27,8 @@ goes_on {A = A} one front count i p x after total lt h so_far =
     rw (k, h) (regroup front x (times one (suc i) (count - (i + 1)) after)) in
     sym (step ∙ ap (λ (j : ℕ). with_front (front ++ x ∷ []) (times one j (count - (i + 1)) after)) next) ∙ so_far
 
-ends : {A : Type 0} (one : ℕ → Reading A) (e : XmFault) (front : List A) (count i : ℕ) (p : Place)
-    (total : Result (List A × Place) XmFault) → i < count → one i p ≡ Err e
+ends : {A : Type 0} (one : ℕ → FileReading A) (e : XmFault) (front : List A) (count i : ℕ) (p : FilePlace)
+    (total : Result (List A × FilePlace) XmFault) → i < count → one i p ≡ Err e
     → with_front front (times one i (count - i) p) ≡ total → total ≡ Err e
 unfolding times
 ends one e front count i p total lt h so_far =
@@ -36,8 +36,8 @@ ends one e front count i p total lt h so_far =
     let step : with_front front (times one i (count - i) p) ≡ Err e = rw (k, h) refl in
     sym so_far ∙ step
 
-pub is_done : {A : Type 0} (one : ℕ → Reading A) (front : List A) (count i : ℕ) (p : Place)
-    (total : Result (List A × Place) XmFault) → count ≤ i → with_front front (times one i (count - i) p) ≡ total
+pub is_done : {A : Type 0} (one : ℕ → FileReading A) (front : List A) (count i : ℕ) (p : FilePlace)
+    (total : Result (List A × FilePlace) XmFault) → count ≤ i → with_front front (times one i (count - i) p) ≡ total
     → total ≡ Ok (front, p)
 unfolding times
 is_done {A = A} one front count i p total le so_far =
@@ -46,9 +46,9 @@ is_done {A = A} one front count i p total le so_far =
     rw k (ap (λ (xs : List A). Ok (xs, p)) (append-nil front)) in
     sym so_far ∙ step
 
-pub fails_on : {A : Type 0} (one : ℕ → Reading A) (e : XmFault) (front : List A) (count i : ℕ) (p : Place)
-    (total : Result (List A × Place) XmFault) → i < count → Fails e (one i p)
-    → with_front front (times one i (count - i) p) ≡ total → Fails e total
+pub fails_on : {A : Type 0} (one : ℕ → FileReading A) (e : XmFault) (front : List A) (count i : ℕ) (p : FilePlace)
+    (total : Result (List A × FilePlace) XmFault) → i < count → FileFails e (one i p)
+    → with_front front (times one i (count - i) p) ≡ total → FileFails e total
 fails_on one faults.NoMemory front count i p total lt h so_far = tt
 fails_on one (faults.NotXm at) front count i p total lt h so_far =
     ends one (faults.NotXm at) front count i p total lt h so_far

@@ -7,11 +7,11 @@ use Rattle.ft_types.specs.declared.pattern.Pattern.{Pattern}
 use Rattle.ft_format.specs.declared.pattern.PatternHead.{PatternHead}
 use Rattle.ft_format.specs.declared.cell.RawCell.{RawCell}
 use Rattle.ft_format.specs.declared.layout.TheConstants.{EMPTY_CELL}
-use Rattle.ft_format.specs.Fields.{byte, u16, u32, IsNumber, AreBytes, IsField, AllFit}
+use Rattle.ft_format.specs.Fields.{byte, two_bytes, four_bytes, IsNumber, AreBytes, IsField, AllFit}
 use Rattle.ft_format.specs.Pattern.{raw_cell_text, RawCellFits, cell_of, RawPattern, pattern_head_text, PatternHeadFits, pattern_text, DataFits, rows_of, RawPatternFits, pattern_of}
 use Rattle.ft_xmread.specs.declared.fault.XmFault.TheVariants.{Count, Packing}
-use Rattle.ft_xmread.specs.Reader.{Place, Reading, field_at, number_at, count_at, checked, seen, times, in_piece}
-use Rattle.ft_xmread.specs.Pattern.{cell_spelled_at, packing_at, pattern_head_at, cells_at, pattern_at}
+use Rattle.ft_xmread.specs.Reader.{FilePlace, FileReading, field_at, number_at, count_at, checked, seen, times, in_piece}
+use Rattle.ft_xmread.specs.Pattern.{cell_spelled_at, packing_at, pattern_head_at, cells_spelled_at, pattern_at}
 use Rattle.ft_xmread.proofs.Numbers.{is_so, eq_is, not_lt, fits_limit}
 use Rattle.ft_xmread.proofs.Chains.{do2, both4, alike2, alike4}
 use Rattle.ft_xmread.proofs.Lawful.{Lawful, Alike, both, alike_law, next_alike, field_law, byte_law, u16_law, u32_law, count_law, pair_law, checked_law, seen_law, ok_is, no_text}
@@ -30,13 +30,14 @@ abbrev head_parts : PatternHead → ℕ × (ℕ × (ℕ × ℕ))
 head_parts head = (head.size, (0, (head.rows, head.packed)))
 
 behind_size : (size packing rows packed : ℕ) → packing ≡ 0
-    → u32 size ++ (byte packing ++ (u16 rows ++ u16 packed)) ≡ u32 size ++ (byte 0 ++ (u16 rows ++ u16 packed))
-behind_size size packing rows packed e = ap (λ (x : ℕ). u32 size ++ (byte x ++ (u16 rows ++ u16 packed))) e
+    → four_bytes size ++ (byte packing ++ (two_bytes rows ++ two_bytes packed)) ≡ four_bytes size
+    ++ (byte 0 ++ (two_bytes rows ++ two_bytes packed))
+behind_size size packing rows packed e = ap (λ (x : ℕ). four_bytes size ++ (byte x ++ (two_bytes rows ++ two_bytes packed))) e
 
 abbrev make_head : ℕ → ℕ → ℕ → ℕ → PatternHead
 make_head size packing rows packed = record { size = size; rows = rows; packed = packed }
 
-abbrev parts_of_head : ℕ → Reading PatternHead
+abbrev parts_of_head : ℕ → FileReading PatternHead
 parts_of_head number =
     seen (λ x. make_head x.0 x.1.0 x.1.1.0 x.1.1.1)
     (both4 (checked low_size Count (number_at 4)) (packing_at number) (count_at 256) (number_at 2))
@@ -50,7 +51,7 @@ head_law : (number : ℕ) → Lawful (pattern_head_at number) pattern_head_text 
 head_law number =
     alike_law (pattern_head_at number) (parts_of_head number) pattern_head_text PatternHeadFits (head_alike number)
     (seen_law _ head_parts _ _ _ pattern_head_text PatternHeadFits
-    (pair_law _ _ _ _ _ _ (checked_law low_size Count (number_at 4) u32 (IsNumber 4) u32_law)
+    (pair_law _ _ _ _ _ _ (checked_law low_size Count (number_at 4) four_bytes (IsNumber 4) u32_law)
     (pair_law _ _ _ _ _ _
     (checked_law packed_otherwise (λ _ packing. Packing number packing) (number_at 1) byte (IsNumber 1) byte_law)
     (pair_law _ _ _ _ _ _ (count_law 256) u16_law)))
@@ -78,16 +79,16 @@ all_empty count = (replicate count EMPTY_CELL, [])
 abbrev cells_of : Bool → ℕ → Data → Cells
 cells_of none count x = (cond none (replicate count EMPTY_CELL) (map cell_of x.0), x.1)
 
-abbrev cells_if : Bool → ℕ → ℕ → ℕ → Reading Cells
+abbrev cells_if : Bool → ℕ → ℕ → ℕ → FileReading Cells
 cells_if none number count packed p =
     cond none (Ok (all_empty count, p)) (in_piece packed (times (λ _. cell_spelled_at number) 0 count) p)
 
-none_takes : (number count packed : ℕ) (p : Place) (x : Cells × Place) → AreBytes p.left
+none_takes : (number count packed : ℕ) (p : FilePlace) (x : Cells × FilePlace) → AreBytes p.left
     → cells_if true number count packed p ≡ Ok x
     → Reached data_text (DataFits true count packed) (cells_of true count) p x
 none_takes number count packed p x bytes e =
-    let made : Cells × Place = (all_empty count, p) in
-    subst (λ (y : Cells × Place). Reached data_text (DataFits true count packed) (cells_of true count) p y)
+    let made : Cells × FilePlace = (all_empty count, p) in
+    subst (λ (y : Cells × FilePlace). Reached data_text (DataFits true count packed) (cells_of true count) p y)
     (ok_is made x e)
     (record { raw = ([], []); fits = refl; parts = refl; value = refl; bytes = bytes })
 
@@ -119,9 +120,9 @@ cells_if_law false number count packed = record {
 }
 
 cells_law : (number count packed : ℕ)
-    → Spelled (cells_at number count packed) data_text (DataFits (nat_eq packed 0) count packed)
+    → Spelled (cells_spelled_at number count packed) data_text (DataFits (nat_eq packed 0) count packed)
     (cells_of (nat_eq packed 0) count)
-unfolding cells_at
+unfolding cells_spelled_at
 cells_law number count packed = cells_if_law (nat_eq packed 0) number count packed
 
 -- ---- a pattern
@@ -140,9 +141,9 @@ PartsFit channels x =
 abbrev parts_mean : ℕ → Parts → PatternHead × (List ℕ × Cells)
 parts_mean channels x = (x.0, (x.1.0, cells_of (nat_eq x.0.packed 0) (rows_of x.0 * channels) x.1.1))
 
-abbrev behind : ℕ → ℕ → PatternHead → Reading (List ℕ × Cells)
+abbrev behind : ℕ → ℕ → PatternHead → FileReading (List ℕ × Cells)
 behind channels number head =
-    both (field_at (head.size - 9)) (λ _. cells_at number (rows_of head * channels) head.packed)
+    both (field_at (head.size - 9)) (λ _. cells_spelled_at number (rows_of head * channels) head.packed)
 
 parts_law : (channels number : ℕ)
     → Spelled (both (pattern_head_at number) (behind channels number)) parts_text (PartsFit channels)
@@ -154,7 +155,7 @@ parts_law channels number = both_spelled (pattern_head_at number) (behind channe
     IsField (head.size - 9) x.0 × DataFits (nat_eq head.packed 0) (rows_of head * channels) head.packed x.1)
     same (λ head x. (x.0, cells_of (nat_eq head.packed 0) (rows_of head * channels) x.1))
     (lawful_spelled (pattern_head_at number) pattern_head_text PatternHeadFits (head_law number))
-    (λ head _. pair_spelled (field_at (head.size - 9)) (cells_at number (rows_of head * channels) head.packed)
+    (λ head _. pair_spelled (field_at (head.size - 9)) (cells_spelled_at number (rows_of head * channels) head.packed)
     (λ l. l) data_text (IsField (head.size - 9)) (DataFits (nat_eq head.packed 0) (rows_of head * channels) head.packed)
     same (cells_of (nat_eq head.packed 0) (rows_of head * channels))
     (lawful_spelled (field_at (head.size - 9)) (λ l. l) (IsField (head.size - 9)) (field_law (head.size - 9)))
@@ -176,8 +177,8 @@ pattern_alike : (channels number : ℕ)
     → Alike (pattern_at channels number) (seen pattern_from (both (pattern_head_at number) (behind channels number)))
 unfolding pattern_at
 pattern_alike channels number = next_alike pattern_from (pattern_head_at number) (behind channels number)
-    (λ head. do2 (field_at (head.size - 9)) (cells_at number (rows_of head * channels) head.packed) (made head))
-    (λ head. alike2 (field_at (head.size - 9)) (cells_at number (rows_of head * channels) head.packed) (made head))
+    (λ head. do2 (field_at (head.size - 9)) (cells_spelled_at number (rows_of head * channels) head.packed) (made head))
+    (λ head. alike2 (field_at (head.size - 9)) (cells_spelled_at number (rows_of head * channels) head.packed) (made head))
 
 pub pattern_law : (channels number : ℕ)
     → Spelled (pattern_at channels number) pattern_text (RawPatternFits channels) (pattern_of channels)

@@ -1,17 +1,17 @@
--- What is wrong with a part behind the identification is never the identification's fault, and never
--- want of memory.
+-- What is wrong with a part behind the identification is never the identification's fault, and
+-- never running out of memory.
 use Rattle.std.proofs.Common.{◌≡◌, ℕ, zero, suc, ◌+◌, ◌-◌, ◌%◌, Bool, true, false, cond, List, [], ◌∷◌, Result, Ok, Err, refl, ap, subst}
 use Rattle.std.specs.Prelude.{nat_eq, nat_lt}
 use Rattle.ft_format.specs.Pattern.{has}
 use Rattle.ft_format.specs.declared.sample.SampleHeader.{SampleHeader}
 use Rattle.ft_xmread.specs.declared.fault.XmFault.{XmFault}
 use Rattle.ft_xmread.specs.declared.fault.XmFault.TheVariants as faults
-use Rattle.ft_xmread.specs.Reader.{Place, Reading, ◌>>=◌, field_at, number_at, and_then, checked, seen, times, byte_if, piece_at, in_piece, give}
+use Rattle.ft_xmread.specs.Reader.{FilePlace, FileReading, ◌>>=◌, field_at, number_at, and_then, checked, seen, times, byte_if, piece_at, in_piece, give}
 use Rattle.ft_xmread.specs.Header.{titles_at, sizes_at, settings_at, header_at}
-use Rattle.ft_xmread.specs.Pattern.{note_at, raw_cell_at, overrun, or_overrun, inside, cell_spelled_at, pattern_head_at, cells_at, pattern_at}
+use Rattle.ft_xmread.specs.Pattern.{note_spelled_at, raw_cell_at, overrun, or_overrun, inside, cell_spelled_at, pattern_head_at, cells_spelled_at, pattern_at}
 use Rattle.ft_xmread.specs.Sample.{sample_fields_at, sample_header_at}
-use Rattle.ft_xmread.specs.Instrument.{head_at, sized_head_at, point_at, pair_at, turns_at, vibrato_at, shapes_at, envelopes_at, extra_at, samples_at, headers_and_samples_at, instrument_spelled_at}
-use Rattle.ft_xmread.specs.File.{song_at, value_of}
+use Rattle.ft_xmread.specs.Instrument.{head_at, sized_head_at, point_spelled_at, pair_at, turns_at, vibrato_at, shapes_at, envelopes_at, extra_at, samples_spelled_at, headers_and_samples_at, instrument_spelled_at}
+use Rattle.ft_xmread.specs.File.{song_spelled_at, value_of}
 
 abbrev pub IsPartFault : XmFault → Type 0
 IsPartFault (faults.NotXm at) = ⊥
@@ -24,8 +24,8 @@ fails f = Err f
 abbrev pub IsQuiet : {A : Type 0} → Result A XmFault → Type 0
 IsQuiet {A = A} r = (f : XmFault) → r ≡ fails {A = A} f → IsPartFault f
 
-abbrev Quiet : {A : Type 0} → Reading A → Type 0
-Quiet one = (p : Place) → IsQuiet (one p)
+abbrev Quiet : {A : Type 0} → FileReading A → Type 0
+Quiet one = (p : FilePlace) → IsQuiet (one p)
 
 pub same_fault : {A : Type 0} (d f : XmFault) → fails {A = A} d ≡ fails {A = A} f → d ≡ f
 same_fault d f e = cc
@@ -65,27 +65,27 @@ number_quiet n p = bind_quiet (field_at n p) _ (field_quiet n p) (λ x. ok_quiet
 give_quiet : {A : Type 0} (x : A) → Quiet (give x)
 give_quiet x p = ok_quiet _
 
-next_quiet : {A B : Type 0} (one : Reading A) (whole : A → Reading B) → Quiet one → ((a : A) → Quiet (whole a))
+next_quiet : {A B : Type 0} (one : FileReading A) (whole : A → FileReading B) → Quiet one → ((a : A) → Quiet (whole a))
     → Quiet (and_then one whole)
 next_quiet one whole quiet more p = bind_quiet (one p) _ (quiet p) (λ a. more a.0 a.1)
 
-checked_quiet : {A : Type 0} (is_bad : A → Bool) (fault : ℕ → A → XmFault) (one : Reading A)
+checked_quiet : {A : Type 0} (is_bad : A → Bool) (fault : ℕ → A → XmFault) (one : FileReading A)
     → ((at : ℕ) (x : A) → IsPartFault (fault at x)) → Quiet one → Quiet (checked is_bad fault one)
 checked_quiet is_bad fault one faulty quiet p =
     bind_quiet (one p) _ (quiet p)
     (λ x. cond_quiet (is_bad x.0) _ _ (err_quiet (fault p.at x.0) (faulty p.at x.0)) (ok_quiet x))
 
-seen_quiet : {A B : Type 0} (view : A → B) (one : Reading A) → Quiet one → Quiet (seen view one)
+seen_quiet : {A B : Type 0} (view : A → B) (one : FileReading A) → Quiet one → Quiet (seen view one)
 seen_quiet view one quiet p = bind_quiet (one p) _ (quiet p) (λ x. ok_quiet _)
 
-times_quiet : {A : Type 0} (one : ℕ → Reading A) → ((k : ℕ) → Quiet (one k)) → (first n : ℕ) → Quiet (times one first n)
+times_quiet : {A : Type 0} (one : ℕ → FileReading A) → ((k : ℕ) → Quiet (one k)) → (first n : ℕ) → Quiet (times one first n)
 unfolding times
 times_quiet one quiet first zero p = ok_quiet _
 times_quiet one quiet first (suc n) p =
     bind_quiet (one first p) _ (quiet first p)
     (λ x. bind_quiet (times one (suc first) n x.1) _ (times_quiet one quiet (suc first) n x.1) (λ y. ok_quiet _))
 
-piece_quiet : {A : Type 0} (n : ℕ) (one : Reading A) → Quiet one → Quiet (in_piece n one)
+piece_quiet : {A : Type 0} (n : ℕ) (one : FileReading A) → Quiet one → Quiet (in_piece n one)
 unfolding piece_at
 piece_quiet n one quiet p =
     bind_quiet (piece_at n p) _ (bind_quiet (field_at n p) _ (field_quiet n p) (λ f. ok_quiet _))
@@ -146,10 +146,10 @@ or_overrun_quiet : {A : Type 0} (pattern at : ℕ) (r : Result A XmFault) → Is
 or_overrun_quiet pattern at (Ok x) quiet = ok_quiet x
 or_overrun_quiet pattern at (Err f) quiet = err_quiet (overrun pattern at f) (overrun_quiet pattern at f (quiet f refl))
 
-inside_quiet : {A : Type 0} (pattern : ℕ) (one : Reading A) → Quiet one → Quiet (inside pattern one)
+inside_quiet : {A : Type 0} (pattern : ℕ) (one : FileReading A) → Quiet one → Quiet (inside pattern one)
 inside_quiet pattern one quiet p = or_overrun_quiet pattern p.at (one p) (quiet p)
 
-note_quiet : (first : ℕ) → Quiet (note_at first)
+note_quiet : (first : ℕ) → Quiet (note_spelled_at first)
 note_quiet first p = cond_quiet (nat_lt first 128) _ _ (ok_quiet _) (byte_if_quiet (nat_eq (first % 2) 1) p)
 
 raw_cell_quiet : Quiet raw_cell_at
@@ -170,8 +170,8 @@ pattern_head_quiet number =
     (checked_quiet _ _ _ (λ at packing. tt) (number_quiet 1))
     (λ _. next_quiet _ _ (count_at_quiet 256) (λ _. next_quiet _ _ (number_quiet 2) (λ _. give_quiet _))))
 
-cells_quiet : (number count packed : ℕ) → Quiet (cells_at number count packed)
-unfolding cells_at
+cells_quiet : (number count packed : ℕ) → Quiet (cells_spelled_at number count packed)
+unfolding cells_spelled_at
 cells_quiet number count packed p = cond_quiet (nat_eq packed 0) _ _ (ok_quiet _)
     (piece_quiet packed (times (λ _. cell_spelled_at number) 0 count)
     (times_quiet (λ _. cell_spelled_at number) (λ _. cell_quiet number) 0 count) p)
@@ -199,8 +199,8 @@ sample_header_quiet instrument number =
     checked_quiet _ _ _ (λ at header. tt)
     (checked_quiet _ _ _ (λ at header. tt) (seen_quiet _ _ (piece_quiet 40 sample_fields_at fields_quiet)))
 
-samples_quiet : (headers : List SampleHeader) → Quiet (samples_at headers)
-unfolding samples_at
+samples_quiet : (headers : List SampleHeader) → Quiet (samples_spelled_at headers)
+unfolding samples_spelled_at
 samples_quiet [] = give_quiet []
 samples_quiet (header ∷ headers) =
     next_quiet _ _ (field_quiet header.length) (λ steps. next_quiet _ _ (samples_quiet headers) (λ _. give_quiet _))
@@ -217,8 +217,8 @@ unfolding sized_head_at head_at
 head_quiet = checked_quiet _ _ _ (λ at head. tt) (next_quiet _ _ (checked_quiet _ _ _ (λ at size. tt) (number_quiet 4))
     (λ _. next_quiet _ _ (field_quiet 22) (λ _. next_quiet _ _ (number_quiet 1) (λ _. next_quiet _ _ (count_at_quiet 16) (λ _. give_quiet _)))))
 
-point_quiet : Quiet point_at
-unfolding point_at
+point_quiet : Quiet point_spelled_at
+unfolding point_spelled_at
 point_quiet = next_quiet _ _ (number_quiet 2) (λ _. next_quiet _ _ (number_quiet 2) (λ _. give_quiet _))
 
 pair_quiet : Quiet pair_at
@@ -247,8 +247,8 @@ shapes_quiet =
     next_quiet _ _ turns_quiet
     (λ _. next_quiet _ _ turns_quiet (λ _. next_quiet _ _ pair_quiet (λ _. give_quiet _))))
 
-points_quiet : Quiet (times (λ _. point_at) 0 12)
-points_quiet = times_quiet (λ _. point_at) (λ _. point_quiet) 0 12
+points_quiet : Quiet (times (λ _. point_spelled_at) 0 12)
+points_quiet = times_quiet (λ _. point_spelled_at) (λ _. point_quiet) 0 12
 
 envelopes_quiet : Quiet envelopes_at
 unfolding envelopes_at
@@ -275,8 +275,8 @@ instrument_quiet number =
 
 -- ---- the whole
 
-pub song_quiet : Quiet song_at
-unfolding song_at
+pub song_quiet : Quiet song_spelled_at
+unfolding song_spelled_at
 song_quiet =
     next_quiet _ _ header_quiet (λ raw. next_quiet _ _
     (times_quiet (pattern_at raw.sizes.channels) (pattern_quiet raw.sizes.channels) 0 raw.settings.patterns)

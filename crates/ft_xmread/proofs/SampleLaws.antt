@@ -9,9 +9,9 @@ use Rattle.ft_format.specs.declared.sample.SampleHeader.{SampleHeader}
 use Rattle.ft_format.specs.Fields.{IsNumber, AreBytes, IsField, AllFit, FitsWithin}
 use Rattle.ft_format.specs.Sample.{sample_header_text, is_stereo, frame_count, SampleHeaderFits, RawSample, RawSampleFits, sample_from}
 use Rattle.ft_xmread.specs.declared.fault.XmFault.TheVariants.{Stereo, TooLong}
-use Rattle.ft_xmread.specs.Reader.{Place, Reading, field_at, number_at, and_then, seen, times, in_piece}
+use Rattle.ft_xmread.specs.Reader.{FilePlace, FileReading, field_at, number_at, and_then, seen, times, in_piece}
 use Rattle.ft_xmread.specs.Sample.{sample_fields_at, sample_header_at}
-use Rattle.ft_xmread.specs.Instrument.{samples_at, headers_and_samples_at}
+use Rattle.ft_xmread.specs.Instrument.{samples_spelled_at, headers_and_samples_at}
 use Rattle.ft_xmread.proofs.Numbers.{not_lt, fits_limit}
 use Rattle.ft_xmread.proofs.Chains.{do5, both5, alike5}
 use Rattle.ft_xmread.proofs.Lawful.{Lawful, Alike, both, alike_law, next_alike, seen_same, Passes, within_text, bind_ok, ok_is, no_text, field_again, field_law, byte_law, u32_law, pair_law, kept_law, within_law, checked_law, seen_law, refit_law, times_law}
@@ -47,10 +47,10 @@ FieldsFit h = IsNumber 4 h.length × (IsNumber 4 h.loop_start × (IsNumber 4 h.l
     × (IsNumber 1 h.volume × (IsNumber 1 h.finetune × (IsNumber 1 h.kind × (IsNumber 1 h.panning × (IsNumber 1 h.relative × (IsNumber 1 h.skipped × IsField 22 h.name))))))))
 
 -- the last five fields, and those before them one at a time
-abbrev last_parts : Reading (ℕ × (ℕ × (ℕ × (ℕ × List ℕ))))
+abbrev last_parts : FileReading (ℕ × (ℕ × (ℕ × (ℕ × List ℕ))))
 last_parts = both5 (number_at 1) (number_at 1) (number_at 1) (number_at 1) (field_at 22)
 
-abbrev fields_parts : Reading SampleHeader
+abbrev fields_parts : FileReading SampleHeader
 fields_parts =
     seen make
     (both (number_at 4)
@@ -72,19 +72,19 @@ made length loop_start loop_len volume finetune kind panning relative skipped na
   name = name;
 }
 
-abbrev last5 : ℕ → ℕ → ℕ → ℕ → ℕ → Reading SampleHeader
+abbrev last5 : ℕ → ℕ → ℕ → ℕ → ℕ → FileReading SampleHeader
 last5 a b d e f = do5 (number_at 1) (number_at 1) (number_at 1) (number_at 1) (field_at 22) (made a b d e f)
 
-abbrev last6 : ℕ → ℕ → ℕ → ℕ → Reading SampleHeader
+abbrev last6 : ℕ → ℕ → ℕ → ℕ → FileReading SampleHeader
 last6 a b d e = and_then (number_at 1) (last5 a b d e)
 
-abbrev last7 : ℕ → ℕ → ℕ → Reading SampleHeader
+abbrev last7 : ℕ → ℕ → ℕ → FileReading SampleHeader
 last7 a b d = and_then (number_at 1) (last6 a b d)
 
-abbrev last8 : ℕ → ℕ → Reading SampleHeader
+abbrev last8 : ℕ → ℕ → FileReading SampleHeader
 last8 a b = and_then (number_at 4) (last7 a b)
 
-abbrev last9 : ℕ → Reading SampleHeader
+abbrev last9 : ℕ → FileReading SampleHeader
 last9 a = and_then (number_at 4) (last8 a)
 
 abbrev Last6 : Type 0
@@ -214,15 +214,15 @@ pub record DataFits (headers : List SampleHeader) (raws : List RawSample) : Type
   pub each : All StepsFit raws
 
 samples_again : (at : ℕ) (raws : List RawSample) (rest : List ℕ) → All StepsFit raws
-    → samples_at (map header_of raws) (record { at = at; left = flat_map steps_of raws ++ rest })
+    → samples_spelled_at (map header_of raws) (record { at = at; left = flat_map steps_of raws ++ rest })
     ≡ Ok (map mean_of raws, record { at = at + length (flat_map steps_of raws); left = rest })
-unfolding samples_at
+unfolding samples_spelled_at
 samples_again at [] rest all = rw (no_text at) refl
 samples_again at (raw ∷ raws) rest all =
     let fits = All-head StepsFit raw raws all in
     let n : at + length (raw.steps ++ flat_map steps_of raws) ≡ at + length raw.steps + length (flat_map steps_of raws) =
     omega (arith, length-append raw.steps (flat_map steps_of raws)) in
-    ap (λ (left : List ℕ). samples_at (map header_of (raw ∷ raws)) (record { at = at; left = left }))
+    ap (λ (left : List ℕ). samples_spelled_at (map header_of (raw ∷ raws)) (record { at = at; left = left }))
     (append_assoc raw.steps (flat_map steps_of raws) rest)
     ∙ rw (
       field_again at raw.steps (flat_map steps_of raws ++ rest) raw.header.length fits.0,
@@ -231,12 +231,12 @@ samples_again at (raw ∷ raws) rest all =
       n,
     ) refl
 
-samples_takes : (headers : List SampleHeader) (p : Place) (x : List Sample × Place) → AreBytes p.left
-    → samples_at headers p ≡ Ok x → Reached (flat_map steps_of) (DataFits headers) (map mean_of) p x
-unfolding samples_at
+samples_takes : (headers : List SampleHeader) (p : FilePlace) (x : List Sample × FilePlace) → AreBytes p.left
+    → samples_spelled_at headers p ≡ Ok x → Reached (flat_map steps_of) (DataFits headers) (map mean_of) p x
+unfolding samples_spelled_at
 samples_takes [] p x bytes e =
-    let made : List Sample × Place = ([], p) in
-    subst (λ (y : List Sample × Place). Reached (flat_map steps_of) (DataFits []) (map mean_of) p y) (ok_is made x e)
+    let made : List Sample × FilePlace = ([], p) in
+    subst (λ (y : List Sample × FilePlace). Reached (flat_map steps_of) (DataFits []) (map mean_of) p y) (ok_is made x e)
     (record {
       raw = [];
       fits = record { headed = refl; each = All-nil StepsFit };
@@ -247,11 +247,11 @@ samples_takes [] p x bytes e =
 samples_takes (header ∷ headers) p x bytes e =
     let a = bind_ok (field_at header.length p) _ x e in
     let s = (field_law header.length).takes p a.0 bytes a.1 in
-    let b = bind_ok (samples_at headers a.0.1) _ x a.2 in
+    let b = bind_ok (samples_spelled_at headers a.0.1) _ x a.2 in
     let r = samples_takes headers a.0.1 b.0 s.bytes b.1 in
     let raw : RawSample = record { header = header; steps = a.0.0 } in
-    let made : List Sample × Place = (sample_from header a.0.0 ∷ b.0.0, b.0.1) in
-    subst (λ (y : List Sample × Place). Reached (flat_map steps_of) (DataFits (header ∷ headers)) (map mean_of) p y)
+    let made : List Sample × FilePlace = (sample_from header a.0.0 ∷ b.0.0, b.0.1) in
+    subst (λ (y : List Sample × FilePlace). Reached (flat_map steps_of) (DataFits (header ∷ headers)) (map mean_of) p y)
     (ok_is made x b.2)
     (record {
       raw = raw ∷ r.raw;
@@ -267,13 +267,13 @@ samples_takes (header ∷ headers) p x bytes e =
     })
 
 samples_law : (headers : List SampleHeader)
-    → Spelled (samples_at headers) (flat_map steps_of) (DataFits headers) (map mean_of)
+    → Spelled (samples_spelled_at headers) (flat_map steps_of) (DataFits headers) (map mean_of)
 samples_law headers = record {
   again =
       λ at raws rest fits.
       subst
       (λ (l : List SampleHeader).
-      samples_at l (record { at = at; left = flat_map steps_of raws ++ rest })
+      samples_spelled_at l (record { at = at; left = flat_map steps_of raws ++ rest })
       ≡ Ok (map mean_of raws, record { at = at + length (flat_map steps_of raws); left = rest })) fits.headed
       (samples_again at raws rest fits.each);
   takes = λ p x bytes e. samples_takes headers p x bytes e;
@@ -294,8 +294,8 @@ abbrev parts_mean : Parts → List SampleHeader × List Sample
 parts_mean x = (x.0, map mean_of x.1)
 
 parts_law : (number count : ℕ)
-    → Spelled (both (times (sample_header_at number) 0 count) samples_at) parts_text (PartsFit count) parts_mean
-parts_law number count = both_spelled (times (sample_header_at number) 0 count) samples_at
+    → Spelled (both (times (sample_header_at number) 0 count) samples_spelled_at) parts_text (PartsFit count) parts_mean
+parts_law number count = both_spelled (times (sample_header_at number) 0 count) samples_spelled_at
     (flat_map sample_header_text) (λ _ raws. flat_map steps_of raws) (AllFit count SampleHeaderFits)
     (λ headers. DataFits headers) same (λ _. map mean_of)
     (lawful_spelled (times (sample_header_at number) 0 count) (flat_map sample_header_text)
@@ -361,11 +361,11 @@ parts_seen count raws g = (
 
 all_alike : (number count : ℕ)
     → Alike (headers_and_samples_at number count)
-    (seen (λ (x : List SampleHeader × List Sample). x.1) (both (times (sample_header_at number) 0 count) samples_at))
+    (seen (λ (x : List SampleHeader × List Sample). x.1) (both (times (sample_header_at number) 0 count) samples_spelled_at))
 unfolding headers_and_samples_at
 all_alike number count =
-    next_alike (λ (x : List SampleHeader × List Sample). x.1) (times (sample_header_at number) 0 count) samples_at
-    samples_at (λ headers. seen_same (samples_at headers))
+    next_alike (λ (x : List SampleHeader × List Sample). x.1) (times (sample_header_at number) 0 count) samples_spelled_at
+    samples_spelled_at (λ headers. seen_same (samples_spelled_at headers))
 
 pub samples_of_law : (number count : ℕ)
     → Spelled (headers_and_samples_at number count) samples_text (AllFit count RawSampleFits) (map mean_of)
@@ -374,6 +374,6 @@ samples_of_law number count =
     (all_alike number count) (recast (λ (x : Parts). x.1) (λ raws. (map header_of raws, raws)) _ parts_text
     (PartsFit count) (λ x. map mean_of x.1) samples_text (AllFit count RawSampleFits) (map mean_of)
     (seen_spelled (λ (x : List SampleHeader × List Sample). x.1)
-    (both (times (sample_header_at number) 0 count) samples_at) parts_text (PartsFit count) parts_mean
+    (both (times (sample_header_at number) 0 count) samples_spelled_at) parts_text (PartsFit count) parts_mean
     (parts_law number count))
     (seen_parts count) (parts_seen count))

@@ -1,4 +1,4 @@
--- The two laws of what stands behind the identification.
+-- The two laws of what follows the identification.
 use Rattle.std.proofs.Common.{ℕ, ◌+◌, List, ◌++◌, map}
 use Rattle.std.specs.List.{flat_map}
 use Rattle.ft_types.specs.declared.module.Module.{Module}
@@ -8,11 +8,11 @@ use Rattle.ft_format.specs.Fields.{AllFit}
 use Rattle.ft_format.specs.Header.{RawHeader, header_text, HeaderFits, song_from as made_song}
 use Rattle.ft_format.specs.Pattern.{RawPattern, pattern_text, RawPatternFits, pattern_of}
 use Rattle.ft_format.specs.Instrument.{RawInstrument, instrument_text, RawInstrumentFits, instrument_of}
-use Rattle.ft_xmread.specs.Reader.{Reading, seen, times}
+use Rattle.ft_xmread.specs.Reader.{FileReading, seen, times}
 use Rattle.ft_xmread.specs.Header.{header_at}
 use Rattle.ft_xmread.specs.Pattern.{pattern_at}
 use Rattle.ft_xmread.specs.Instrument.{instrument_spelled_at}
-use Rattle.ft_xmread.specs.File.{song_at}
+use Rattle.ft_xmread.specs.File.{song_spelled_at}
 use Rattle.ft_xmread.proofs.HeaderLaws.{header_law}
 use Rattle.ft_xmread.proofs.PatternLaws.{pattern_law}
 use Rattle.ft_xmread.proofs.InstrumentLaws.{instrument_law}
@@ -36,7 +36,7 @@ PartsFit x =
 abbrev parts_mean : Parts → RawHeader × (List Pattern × List Instrument)
 parts_mean x = (x.0, (map (pattern_of x.0.sizes.channels) x.1.0, map instrument_of x.1.1))
 
-abbrev behind : RawHeader → Reading (List Pattern × List Instrument)
+abbrev behind : RawHeader → FileReading (List Pattern × List Instrument)
 behind raw =
     both (times (pattern_at raw.sizes.channels) 0 raw.settings.patterns)
     (λ _. times (λ k. instrument_spelled_at (k + 1)) 0 raw.settings.instruments)
@@ -59,7 +59,7 @@ behind_law raw =
     (times_spelled (λ k. instrument_spelled_at (k + 1)) instrument_text RawInstrumentFits instrument_of
     (λ k. instrument_law (k + 1)) 0 raw.settings.instruments)
 
-abbrev parts_at : Reading (RawHeader × (List Pattern × List Instrument))
+abbrev parts_at : FileReading (RawHeader × (List Pattern × List Instrument))
 parts_at = both header_at behind
 
 parts_law : Spelled parts_at parts_text PartsFit parts_mean
@@ -78,8 +78,8 @@ song_of_parts x = made_song x.0 x.1.0 x.1.1
 abbrev pub meaning : Parts → Module
 meaning x = song_of_parts (parts_mean x)
 
-song_alike : Alike song_at (seen song_of_parts parts_at)
-unfolding song_at
+song_alike : Alike song_spelled_at (seen song_of_parts parts_at)
+unfolding song_spelled_at
 song_alike = next_alike song_of_parts header_at behind
     (λ raw.
     do2 (times (pattern_at raw.sizes.channels) 0 raw.settings.patterns)
@@ -88,7 +88,7 @@ song_alike = next_alike song_of_parts header_at behind
     alike2 (times (pattern_at raw.sizes.channels) 0 raw.settings.patterns)
     (times (λ k. instrument_spelled_at (k + 1)) 0 raw.settings.instruments) (made_song raw))
 
-pub song_law : Spelled song_at parts_text PartsFit meaning
+pub song_law : Spelled song_spelled_at parts_text PartsFit meaning
 song_law =
-    alike_spelled song_at (seen song_of_parts parts_at) parts_text PartsFit meaning song_alike
+    alike_spelled song_spelled_at (seen song_of_parts parts_at) parts_text PartsFit meaning song_alike
     (seen_spelled song_of_parts parts_at parts_text PartsFit parts_mean parts_law)

@@ -8,10 +8,10 @@ use Rattle.ft_format.specs.declared.limits.TheConstants.{MOST_ORDERS, MOST_CHANN
 use Rattle.ft_format.specs.Header.{RawHeader}
 use Rattle.ft_xmread.specs.declared.fault.XmFault.TheVariants.{Version, Count}
 use Rattle.ft_xmread.specs.declared.header.Header.{Header}
-use Rattle.ft_xmread.specs.Reader.{Reading, field_at, number_at, count_at, checked, give}
+use Rattle.ft_xmread.specs.Reader.{FileReading, field_at, number_at, count_at, checked, give}
 use Rattle.ft_xmread.specs.Parts.{◌>>=◌}
 
-unfoldable pub titles_at : Reading Titles
+unfoldable pub titles_at : FileReading Titles
 titles_at = do
   name ← field_at 20
   mark ← number_at 1
@@ -19,28 +19,28 @@ titles_at = do
   give (record { name = name; mark = mark; tracker = tracker })
 
 -- only one version is known
-abbrev pub version_at : Reading ℕ
-version_at =
+abbrev pub version_spelled_at : FileReading ℕ
+version_spelled_at =
     checked (λ version. not (version == KNOWN)) (λ _ version. Version version) (number_at 2)
 
 -- the header's size counts from its own field on, and its order table has at least a byte
-abbrev pub size_at : Reading ℕ
+abbrev pub size_at : FileReading ℕ
 size_at = checked (λ size. nat_lt size LEAST_HEADER_SIZE) Count (number_at 4)
 
-abbrev pub channels_at : Reading ℕ
+abbrev pub channels_at : FileReading ℕ
 channels_at =
     checked (λ channels. (channels == 0) || nat_lt MOST_CHANNELS channels) Count (number_at 2)
 
-unfoldable pub sizes_at : Reading Sizes
+unfoldable pub sizes_at : FileReading Sizes
 sizes_at = do
-  _ ← version_at
+  _ ← version_spelled_at
   size ← size_at
   length ← count_at MOST_ORDERS
   restart ← number_at 2
   channels ← channels_at
   give (record { size = size; length = length; restart = restart; channels = channels })
 
-unfoldable pub settings_at : Reading Settings
+unfoldable pub settings_at : FileReading Settings
 settings_at = do
   patterns ← count_at MOST_PATTERNS
   instruments ← count_at MOST_INSTRUMENTS
@@ -56,7 +56,7 @@ settings_at = do
   })
 
 -- the order table is one field
-unfoldable pub header_at : Reading RawHeader
+unfoldable pub header_at : FileReading RawHeader
 header_at = do
   titles ← titles_at
   sizes ← sizes_at
@@ -75,7 +75,7 @@ raw_of header = record {
 }
 
 -- what reading a header makes sure of
-pub record HasRanges (header : Header) : Type 0 where
+pub record HasHeaderRanges (header : Header) : Type 0 where
   pub table : length header.orders.now + BEFORE_ORDERS ≡ header.sizes.size
   pub orders : header.sizes.length ≤ MOST_ORDERS
   pub channels : header.sizes.channels ≤ MOST_CHANNELS

@@ -3,7 +3,7 @@ use Rattle.std.specs.Prelude.{ℕ, zero, suc, ◌+◌, List, Bool, Option, Some,
 use Rattle.ft_format.specs.declared.layout.TheConstants.{IDENTIFICATION, LETTER, SMALL}
 use Rattle.ft_xmread.specs.declared.fault.XmFault.{XmFault}
 use Rattle.ft_xmread.specs.declared.fault.XmFault.TheVariants.{NotXm}
-use Rattle.ft_xmread.specs.Reader.{Reading, ◌>>=◌, field_at}
+use Rattle.ft_xmread.specs.Reader.{FileReading, ◌>>=◌, field_at}
 
 -- the byte at this place is the identification's, or the small letter in the letter's place
 abbrev pub stands : List ℕ → ℕ → Bool
@@ -20,7 +20,7 @@ unless_wrong at (Some k) x = Err (NotXm (at + k))
 unless_wrong at None x = Ok x
 
 -- the letter is the one choice
-unfoldable pub identification_at : Reading ℕ
+unfoldable pub identification_at : FileReading ℕ
 identification_at p = do
   piece ← field_at 17 p
   unless_wrong p.at (wrong_from 0 17 piece.0) (slice_index piece.0 LETTER, piece.1)

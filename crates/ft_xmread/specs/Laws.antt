@@ -16,6 +16,6 @@ pub record HasOneAnswer : Type 0 where
   pub not_both : (file : List ℕ) (song : Module) (fault : XmFault)
       → Spells file song → HasFault file fault → ⊥
 
--- want of memory is never what is wrong with a file
+-- running out of memory is never what is wrong with a file
 abbrev pub MemoryIsNoFault : Type 0
 MemoryIsNoFault = (file : List ℕ) → HasFault file faults.NoMemory → ⊥

@@ -17,16 +17,16 @@ pub record IsFirstWrong (file : List ℕ) (at : ℕ) : Type 0 where
 abbrev pub HasFault : List ℕ → XmFault → Type 0
 HasFault file fault = song_in file ≡ Err fault
 
--- what may be answered: the fault of the bytes, or that memory is wanting
+-- what may be answered: the fault of the bytes, or running out of memory
 abbrev pub IsFaultOf : List ℕ → XmFault → Type 0
 IsFaultOf file fault = (fault ≡ faults.NoMemory) ⊎ HasFault file fault
 
--- this song, unless memory is wanting
+-- this song, unless memory runs out
 abbrev pub IsThisSong : Result Module XmFault → Module → Type 0
 IsThisSong (Ok read) song = read ≡ song
 IsThisSong (Err fault) song = fault ≡ faults.NoMemory
 
--- this fault, unless memory is wanting
+-- this fault, unless memory runs out
 abbrev pub IsRefusedBy : Result Module XmFault → XmFault → Type 0
 IsRefusedBy (Ok song) fault = ⊥
 IsRefusedBy (Err answer) fault = (answer ≡ fault) ⊎ (answer ≡ faults.NoMemory)

@@ -2,8 +2,8 @@
 
 ghost use Rattle.std.specs.Prelude.{◌≡◌, nat_le, if◌then◌else◌};
 ghost use Rattle.ft_format.specs.declared.limits.TheConstants.{KEY_OFF};
-ghost use Rattle.ft_xmread.specs.Reader.{Reads, byte_if};
-ghost use Rattle.ft_xmread.specs.Pattern.{note_at, overrun, raw_cell_at, cell_spelled_at};
+ghost use Rattle.ft_xmread.specs.Reader.{FileReads, byte_if};
+ghost use Rattle.ft_xmread.specs.Pattern.{note_spelled_at, overrun, raw_cell_at, cell_spelled_at};
 
 use crate::fault::XmFault;
 use crate::reader::Reader;
@@ -15,7 +15,7 @@ use ft_types::Cell;
 
 /// The next byte where the first byte says that it follows, else 0.
 fn byte_if(reader: &mut Reader, follows: bool) -> Result<u8, XmFault>
-    ensures { Reads (λ x. x) result reader.new (byte_if follows reader.old) }
+    ensures { FileReads (λ x. x) result reader.new (byte_if follows reader.old) }
 {
     if follows {
         return reader.byte();
@@ -25,7 +25,7 @@ fn byte_if(reader: &mut Reader, follows: bool) -> Result<u8, XmFault>
 
 /// The note: a first byte below `MASK` is the note itself.
 fn read_note(reader: &mut Reader, first: u8) -> Result<u8, XmFault>
-    ensures { Reads (λ x. x) result reader.new (note_at first reader.old) }
+    ensures { FileReads (λ x. x) result reader.new (note_spelled_at first reader.old) }
 {
     if first < MASK {
         return Ok(first);
@@ -36,7 +36,7 @@ fn read_note(reader: &mut Reader, first: u8) -> Result<u8, XmFault>
 /// A cell as the file spells it.
 #[tactic(auto, unfolding(crate::specs::Pattern::raw_cell_at))]
 fn read_raw_cell(reader: &mut Reader) -> Result<RawCell, XmFault>
-    ensures { Reads (λ x. x) result reader.new (raw_cell_at reader.old) }
+    ensures { FileReads (λ x. x) result reader.new (raw_cell_at reader.old) }
 {
     let first = reader.byte()?;
     if first == MASK {
@@ -80,7 +80,7 @@ fn overrun(pattern: u16, at: u64, fault: XmFault) -> XmFault
 /// The next cell in the data of a pattern.
 #[tactic(auto, unfolding(crate::specs::Pattern::cell_spelled_at))]
 pub fn read_cell(reader: &mut Reader, pattern: u16) -> Result<Cell, XmFault>
-    ensures { Reads (λ x. x) result reader.new (cell_spelled_at pattern reader.old) }
+    ensures { FileReads (λ x. x) result reader.new (cell_spelled_at pattern reader.old) }
 {
     let at = reader.place();
     match read_raw_cell(reader) {

@@ -3,8 +3,8 @@
 
 ghost use Rattle.std.specs.Prelude.{◌≡◌, map, min};
 ghost use Rattle.ft_format.specs.Instrument.{point_of, envelope_of, vibrato_of, instrument_with};
-ghost use Rattle.ft_xmread.specs.Reader.{Reads};
-ghost use Rattle.ft_xmread.specs.Instrument.{point_at, points_at, pair_at, turns_at, vibrato_at, shapes_at, shaped, envelopes_at, extra_at};
+ghost use Rattle.ft_xmread.specs.Reader.{FileReads};
+ghost use Rattle.ft_xmread.specs.Instrument.{point_spelled_at, points_at, pair_at, turns_at, vibrato_at, shapes_at, shaped, envelopes_at, extra_at};
 
 use crate::fault::XmFault;
 use crate::reader::Reader;
@@ -23,9 +23,9 @@ const LAST_SAMPLE: u8 = 15;
 
 const ORIGIN: Point = Point { x: 0, y: 0 };
 
-#[tactic(auto, unfolding(crate::specs::Instrument::point_at))]
+#[tactic(auto, unfolding(crate::specs::Instrument::point_spelled_at))]
 fn read_point(reader: &mut Reader) -> Result<Point, XmFault>
-    ensures { Reads (λ x. x) result reader.new (point_at reader.old) }
+    ensures { FileReads (λ x. x) result reader.new (point_spelled_at reader.old) }
 {
     let x = reader.u16()?;
     let y = reader.u16()?;
@@ -33,7 +33,7 @@ fn read_point(reader: &mut Reader) -> Result<Point, XmFault>
 }
 
 fn read_points(reader: &mut Reader) -> Result<[Point; 12], XmFault>
-    ensures { Reads (λ x. x) result reader.new (points_at reader.old) }
+    ensures { FileReads (λ x. x) result reader.new (points_at reader.old) }
 {
     let mut points = [ORIGIN; 12];
     for k in 0..12 {
@@ -45,7 +45,7 @@ fn read_points(reader: &mut Reader) -> Result<[Point; 12], XmFault>
 /// The same byte of both envelopes.
 #[tactic(auto, unfolding(crate::specs::Instrument::pair_at))]
 fn read_pair(reader: &mut Reader) -> Result<Pair, XmFault>
-    ensures { Reads (λ x. x) result reader.new (pair_at reader.old) }
+    ensures { FileReads (λ x. x) result reader.new (pair_at reader.old) }
 {
     let volume = reader.byte()?;
     let panning = reader.byte()?;
@@ -54,7 +54,7 @@ fn read_pair(reader: &mut Reader) -> Result<Pair, XmFault>
 
 #[tactic(auto, unfolding(crate::specs::Instrument::turns_at))]
 fn read_turns(reader: &mut Reader) -> Result<Turns, XmFault>
-    ensures { Reads (λ x. x) result reader.new (turns_at reader.old) }
+    ensures { FileReads (λ x. x) result reader.new (turns_at reader.old) }
 {
     let sustain = reader.byte()?;
     let loop_start = reader.byte()?;
@@ -68,7 +68,7 @@ fn read_turns(reader: &mut Reader) -> Result<Turns, XmFault>
 
 #[tactic(auto, unfolding(crate::specs::Instrument::vibrato_at))]
 fn read_vibrato(reader: &mut Reader) -> Result<Vibrato, XmFault>
-    ensures { Reads (λ x. x) result reader.new (vibrato_at reader.old) }
+    ensures { FileReads (λ x. x) result reader.new (vibrato_at reader.old) }
 {
     let kind = reader.byte()?;
     let sweep = reader.byte()?;
@@ -85,7 +85,7 @@ fn read_vibrato(reader: &mut Reader) -> Result<Vibrato, XmFault>
 /// What two envelopes say behind their points.
 #[tactic(auto, unfolding(crate::specs::Instrument::shapes_at))]
 fn read_shapes(reader: &mut Reader) -> Result<Shapes, XmFault>
-    ensures { Reads (λ x. x) result reader.new (shapes_at reader.old) }
+    ensures { FileReads (λ x. x) result reader.new (shapes_at reader.old) }
 {
     let counts = read_pair(reader)?;
     let volume = read_turns(reader)?;
@@ -116,7 +116,7 @@ fn shaped(points: [Point; 12], count: u8, turns: Turns, flags: u8) -> Envelope
 /// Both envelopes: the points of both, and then the rest of both.
 #[tactic(auto, unfolding(crate::specs::Instrument::envelopes_at))]
 fn read_envelopes(reader: &mut Reader) -> Result<Envelopes, XmFault>
-    ensures { Reads (λ x. x) result reader.new (envelopes_at reader.old) }
+    ensures { FileReads (λ x. x) result reader.new (envelopes_at reader.old) }
 {
     let volume = read_points(reader)?;
     let panning = read_points(reader)?;
@@ -130,7 +130,7 @@ fn read_envelopes(reader: &mut Reader) -> Result<Envelopes, XmFault>
 
 #[tactic(auto, unfolding(crate::specs::Instrument::extra_at))]
 pub fn read_extra(reader: &mut Reader) -> Result<Extra, XmFault>
-    ensures { Reads (λ x. x) result reader.new (extra_at reader.old) }
+    ensures { FileReads (λ x. x) result reader.new (extra_at reader.old) }
 {
     let header_size = reader.u32()?;
     let map = reader.array()?;
@@ -207,7 +207,7 @@ fn map_of(samples: [u8; 96]) -> [u8; 96]
     low
 }
 
-/// The instrument of a head, what stands in it, and its samples, brought into range.
+/// The instrument of a head, what is in it, and its samples, brought into range.
 #[tactic(auto, unfolding(ft_format::specs::Instrument::instrument_with))]
 pub fn instrument_with(head: InstrumentHead, extra: Extra, samples: Vec<Sample>) -> Instrument
     ensures { result ≡ instrument_with head extra samples.items }

@@ -17,7 +17,7 @@ pub enum XmFault {
     },
     /// The version isn't 0x0104.
     Version {
-        /// What stands there.
+        /// What is there.
         found: u16,
     },
     /// A field of `need` bytes would begin here, and the file ends before its end.
@@ -64,7 +64,7 @@ pub enum XmFault {
         /// Its frames.
         frames: u32,
     },
-    /// Memory is wanting. No clause says when this comes.
+    /// Out of memory. No clause says when this comes.
     NoMemory,
 }
 

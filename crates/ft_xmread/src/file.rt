@@ -6,9 +6,9 @@ ghost use Rattle.ft_types.specs.Valid.{IsValid};
 ghost use Rattle.ft_format.specs.Canon.{canon};
 ghost use Rattle.ft_format.specs.Spelling.{Spells};
 ghost use Rattle.ft_xmread.specs.declared.fault.XmFault.{XmFault};
-ghost use Rattle.ft_xmread.specs.Reader.{Reads};
+ghost use Rattle.ft_xmread.specs.Reader.{FileReads};
 ghost use Rattle.ft_xmread.specs.Identification.{identification_at};
-ghost use Rattle.ft_xmread.specs.File.{song_at, song_in, Answers};
+ghost use Rattle.ft_xmread.specs.File.{song_spelled_at, song_in, Answers};
 ghost use Rattle.ft_xmread.specs.Song.{IsFirstWrong, HasFault, IsFaultOf, IsThisSong, IsRefusedBy};
 
 use crate::fault::XmFault;
@@ -21,10 +21,10 @@ use ft_format::{canonical_is_spelled, spelled_is_valid};
 use ft_types::Module;
 use std::alloc::Global;
 
-/// What stands behind the identification.
-#[tactic(auto, unfolding(crate::specs::File::song_at))]
+/// What follows the identification.
+#[tactic(auto, unfolding(crate::specs::File::song_spelled_at))]
 fn read_parts(alloc: Global, reader: &mut Reader) -> Result<Module, XmFault>
-    ensures { Reads (λ x. x) result reader.new (song_at reader.old) }
+    ensures { FileReads (λ x. x) result reader.new (song_spelled_at reader.old) }
 {
     let header = read_header(reader)?;
     let (sizes, settings) = (header.sizes, header.settings);
@@ -54,7 +54,7 @@ pub fn read_xm(alloc: Global, bytes: &[u8]) -> Result<Module, XmFault>
     ensures found { IfOk result (Spells bytes.now) }
     // and is valid.
     ensures valid { IfOk result IsValid }
-    // What the bytes spell is read, unless memory is wanting.
+    // What the bytes spell is read, unless memory runs out.
     ensures only { (song : Module) → Spells bytes.now song → IsThisSong result song }
     // So is each valid song, from its canonical bytes.
     ensures canonical { (song : Module) → IsValid song → bytes.now ≡ canon song
@@ -62,9 +62,9 @@ pub fn read_xm(alloc: Global, bytes: &[u8]) -> Result<Module, XmFault>
     // The identification is refused at the first byte that differs.
     ensures not_xm { (at : ℕ)
         → (result ≡ Err (XmFault.NotXm at)) ↔ IsFirstWrong bytes.now at }
-    // What is refused has this fault, or memory is wanting.
+    // What is refused has this fault, or memory runs out.
     ensures fault { IfErr result (IsFaultOf bytes.now) }
-    // What has a fault is refused by it, unless memory is wanting.
+    // What has a fault is refused by it, unless memory runs out.
     ensures refused { (f : XmFault) → HasFault bytes.now f → IsRefusedBy result f }
 {
     spelled_is_valid();

@@ -4,9 +4,9 @@ ghost use Rattle.std.specs.Prelude.{◌≡◌, ◌<◌, ◌≤◌, IfOk, IfErr};
 ghost use Rattle.ft_format.specs.declared.layout.TheConstants.{BEFORE_ORDERS};
 ghost use Rattle.ft_format.specs.declared.limits.TheConstants.{MOST_ORDERS, MOST_CHANNELS, MOST_INSTRUMENTS};
 ghost use Rattle.ft_format.specs.Header.{length_of, restart_of, orders_of, song_from};
-ghost use Rattle.ft_xmread.specs.Reader.{Reads};
+ghost use Rattle.ft_xmread.specs.Reader.{FileReads};
 ghost use Rattle.ft_xmread.specs.Song.{IsThisSong};
-ghost use Rattle.ft_xmread.specs.Header.{raw_of, titles_at, size_at, channels_at, sizes_at, settings_at, header_at, HasRanges};
+ghost use Rattle.ft_xmread.specs.Header.{raw_of, titles_at, size_at, channels_at, sizes_at, settings_at, header_at, HasHeaderRanges};
 
 use crate::fault::XmFault;
 use crate::reader::Reader;
@@ -32,7 +32,7 @@ pub struct Header<'a> {
 
 #[tactic(auto, unfolding(crate::specs::Header::titles_at))]
 fn read_titles(reader: &mut Reader) -> Result<Titles, XmFault>
-    ensures { Reads (λ x. x) result reader.new (titles_at reader.old) }
+    ensures { FileReads (λ x. x) result reader.new (titles_at reader.old) }
 {
     let name = reader.array()?;
     let mark = reader.byte()?;
@@ -46,7 +46,7 @@ fn read_titles(reader: &mut Reader) -> Result<Titles, XmFault>
 
 /// The header's size, which leaves room for an order.
 fn read_size(reader: &mut Reader) -> Result<u32, XmFault>
-    ensures value { Reads (λ x. x) result reader.new (size_at reader.old) }
+    ensures value { FileReads (λ x. x) result reader.new (size_at reader.old) }
     ensures some { IfOk result (λ size. BEFORE_ORDERS < size) }
 {
     let at = reader.place();
@@ -59,7 +59,7 @@ fn read_size(reader: &mut Reader) -> Result<u32, XmFault>
 
 /// The number of channels, 1 to 32.
 fn read_channels(reader: &mut Reader) -> Result<u16, XmFault>
-    ensures value { Reads (λ x. x) result reader.new (channels_at reader.old) }
+    ensures value { FileReads (λ x. x) result reader.new (channels_at reader.old) }
     ensures few { IfOk result (λ channels. channels ≤ MOST_CHANNELS) }
 {
     let at = reader.place();
@@ -75,7 +75,7 @@ fn read_channels(reader: &mut Reader) -> Result<u16, XmFault>
 
 #[tactic(auto, unfolding(crate::specs::Header::sizes_at))]
 fn read_sizes(reader: &mut Reader) -> Result<Sizes, XmFault>
-    ensures value { Reads (λ x. x) result reader.new (sizes_at reader.old) }
+    ensures value { FileReads (λ x. x) result reader.new (sizes_at reader.old) }
     ensures size { IfOk result (λ sizes. BEFORE_ORDERS < sizes.size) }
     ensures length { IfOk result (λ sizes. sizes.length ≤ MOST_ORDERS) }
     ensures channels { IfOk result (λ sizes. sizes.channels ≤ MOST_CHANNELS) }
@@ -98,7 +98,7 @@ fn read_sizes(reader: &mut Reader) -> Result<Sizes, XmFault>
 
 #[tactic(auto, unfolding(crate::specs::Header::settings_at))]
 fn read_settings(reader: &mut Reader) -> Result<Settings, XmFault>
-    ensures value { Reads (λ x. x) result reader.new (settings_at reader.old) }
+    ensures value { FileReads (λ x. x) result reader.new (settings_at reader.old) }
     ensures instruments { IfOk result (λ settings. settings.instruments ≤ MOST_INSTRUMENTS) }
 {
     let patterns = reader.count(MOST_PATTERNS)?;
@@ -118,8 +118,8 @@ fn read_settings(reader: &mut Reader) -> Result<Settings, XmFault>
 /// The header behind the identification.
 #[tactic(auto, unfolding(crate::specs::Header::header_at))]
 pub fn read_header<'a>(reader: &mut Reader<'a>) -> Result<Header<'a>, XmFault>
-    ensures value { Reads raw_of result reader.new (header_at reader.old) }
-    ensures ranges { IfOk result HasRanges }
+    ensures value { FileReads raw_of result reader.new (header_at reader.old) }
+    ensures ranges { IfOk result HasHeaderRanges }
 {
     let titles = read_titles(reader)?;
     let sizes = read_sizes(reader)?;
@@ -154,7 +154,7 @@ impl<'a> Header<'a> {
 
     /// The orders; those that the table doesn't hold are 0.
     fn orders(&self, alloc: Global) -> Result<Vec<u8>, XmFault>
-        requires { HasRanges self.now }
+        requires { HasHeaderRanges self.now }
         ensures value { IfOk result (λ orders. orders.items
             ≡ orders_of (length_of self.now.sizes) self.now.orders.now) }
         ensures wanting { IfErr result (λ fault. fault ≡ XmFault.NoMemory) }
@@ -175,7 +175,7 @@ impl<'a> Header<'a> {
         patterns: Vec<Pattern>,
         instruments: Vec<Instrument>,
     ) -> Result<Module, XmFault>
-        requires { HasRanges self.now }
+        requires { HasHeaderRanges self.now }
         ensures { IsThisSong result
             (song_from (raw_of self.now) patterns.items instruments.items) }
     {

@@ -1,7 +1,7 @@
 //! The identification, bytes 0 to 16 of a file.
 
 ghost use Rattle.std.specs.Prelude.{◌≡◌, ◌≢◌, ◌<◌, length, IfSome, Err};
-ghost use Rattle.ft_xmread.specs.Reader.{Reads};
+ghost use Rattle.ft_xmread.specs.Reader.{FileReads};
 ghost use Rattle.ft_xmread.specs.Identification.{stands, wrong_from, identification_at};
 
 use crate::fault::XmFault;
@@ -35,7 +35,7 @@ fn first_wrong(piece: &[u8]) -> Option<usize>
 /// The letter M of the identification, capital or small. `NotXm` at the first byte that differs.
 #[tactic(auto, unfolding(crate::specs::Identification::identification_at))]
 pub fn read_identification(reader: &mut Reader) -> Result<u8, XmFault>
-    ensures value { Reads (λ x. x) result reader.new (identification_at reader.old) }
+    ensures value { FileReads (λ x. x) result reader.new (identification_at reader.old) }
     ensures memory { result ≢ Err XmFault.NoMemory }
 {
     let at = reader.place();

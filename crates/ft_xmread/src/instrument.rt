@@ -3,9 +3,9 @@
 ghost use Rattle.std.specs.Prelude.{◌≤◌, ◌+◌, IfOk};
 ghost use Rattle.ft_format.specs.declared.layout.TheConstants.{SHORT_HEAD};
 ghost use Rattle.ft_format.specs.declared.limits.TheConstants.{MOST_INSTRUMENTS};
-ghost use Rattle.ft_xmread.specs.Reader.{Reads, seen, in_piece, times};
+ghost use Rattle.ft_xmread.specs.Reader.{FileReads, seen, in_piece, times};
 ghost use Rattle.ft_xmread.specs.Sample.{sample_header_at};
-ghost use Rattle.ft_xmread.specs.Instrument.{head_at, sized_head_at, extra_at, samples_at, headers_and_samples_at, rest_at, instrument_spelled_at};
+ghost use Rattle.ft_xmread.specs.Instrument.{head_at, sized_head_at, extra_at, samples_spelled_at, headers_and_samples_at, rest_at, instrument_spelled_at};
 
 use crate::envelopes::{instrument_with, read_extra};
 use crate::fault::XmFault;
@@ -19,7 +19,7 @@ use std::alloc::Global;
 
 #[tactic(auto, unfolding(crate::specs::Instrument::head_at))]
 fn read_head(reader: &mut Reader) -> Result<InstrumentHead, XmFault>
-    ensures value { Reads (λ x. x) result reader.new (head_at reader.old) }
+    ensures value { FileReads (λ x. x) result reader.new (head_at reader.old) }
     ensures size { IfOk result (λ head. SHORT_HEAD ≤ head.size) }
 {
     let at = reader.place();
@@ -41,7 +41,7 @@ fn read_head(reader: &mut Reader) -> Result<InstrumentHead, XmFault>
 /// The head, whose size leaves room for what samples need.
 #[tactic(auto, unfolding(crate::specs::Instrument::sized_head_at))]
 fn read_sized_head(reader: &mut Reader) -> Result<InstrumentHead, XmFault>
-    ensures value { Reads (λ x. x) result reader.new (sized_head_at reader.old) }
+    ensures value { FileReads (λ x. x) result reader.new (sized_head_at reader.old) }
     ensures size { IfOk result (λ head. SHORT_HEAD ≤ head.size) }
 {
     let at = reader.place();
@@ -55,10 +55,10 @@ fn read_sized_head(reader: &mut Reader) -> Result<InstrumentHead, XmFault>
     Ok(head)
 }
 
-/// What stands in the head of an instrument with samples behind its first bytes. Bytes that are left
+/// What is in the head of an instrument with samples behind its first bytes. Bytes that are left
 /// are skipped.
 fn read_long_head(reader: &mut Reader, need: u32) -> Result<Extra, XmFault>
-    ensures { Reads (λ x. x) result reader.new
+    ensures { FileReads (λ x. x) result reader.new
         (seen (λ x. x.0) (in_piece need extra_at) reader.old) }
 {
     let mut piece = reader.piece(need)?;
@@ -72,7 +72,7 @@ fn read_headers(
     instrument: u16,
     count: u16,
 ) -> Result<Vec<SampleHeader>, XmFault>
-    ensures { Reads (λ headers. headers.items) result reader.new
+    ensures { FileReads (λ headers. headers.items) result reader.new
         (times (sample_header_at instrument) 0 count reader.old) }
 {
     let mut headers = Vec::with_capacity(alloc, usize::from(count))?;
@@ -89,8 +89,8 @@ fn read_samples(
     reader: &mut Reader,
     headers: &[SampleHeader],
 ) -> Result<Vec<Sample>, XmFault>
-    ensures { Reads (λ samples. samples.items) result reader.new
-        (samples_at headers.now reader.old) }
+    ensures { FileReads (λ samples. samples.items) result reader.new
+        (samples_spelled_at headers.now reader.old) }
 {
     let mut samples = Vec::with_capacity(alloc, headers.len())?;
     for header in headers {
@@ -109,14 +109,14 @@ fn read_headers_and_samples(
     instrument: u16,
     count: u16,
 ) -> Result<Vec<Sample>, XmFault>
-    ensures { Reads (λ samples. samples.items) result reader.new
+    ensures { FileReads (λ samples. samples.items) result reader.new
         (headers_and_samples_at instrument count reader.old) }
 {
     let headers = read_headers(alloc, reader, instrument, count)?;
     read_samples(alloc, reader, &headers)
 }
 
-/// What stands behind the first 29 bytes of a head.
+/// What follows the first 29 bytes of a head.
 fn read_rest(
     alloc: Global,
     reader: &mut Reader,
@@ -124,7 +124,7 @@ fn read_rest(
     head: InstrumentHead,
 ) -> Result<Instrument, XmFault>
     requires { SHORT_HEAD ≤ head.size }
-    ensures { Reads (λ x. x) result reader.new (rest_at number head reader.old) }
+    ensures { FileReads (λ x. x) result reader.new (rest_at number head reader.old) }
 {
     if head.samples == 0 {
         reader.field(head.size - SHORT_HEAD)?;
@@ -142,7 +142,7 @@ pub fn read_instrument(
     reader: &mut Reader,
     number: u16,
 ) -> Result<Instrument, XmFault>
-    ensures { Reads (λ x. x) result reader.new (instrument_spelled_at number reader.old) }
+    ensures { FileReads (λ x. x) result reader.new (instrument_spelled_at number reader.old) }
 {
     let head = read_sized_head(reader)?;
     read_rest(alloc, reader, number, head)
@@ -155,7 +155,7 @@ pub fn read_instruments(
     count: u16,
 ) -> Result<Vec<Instrument>, XmFault>
     requires { count ≤ MOST_INSTRUMENTS }
-    ensures { Reads (λ instruments. instruments.items) result reader.new
+    ensures { FileReads (λ instruments. instruments.items) result reader.new
         (times (λ k. instrument_spelled_at (k + 1)) 0 count reader.old) }
 {
     let mut instruments = Vec::with_capacity(alloc, usize::from(count))?;

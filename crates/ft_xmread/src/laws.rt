@@ -7,7 +7,7 @@ pub fn one_answer_law()
     ensures { HasOneAnswer }
 {}
 
-/// No file has the fault that memory is wanting.
-pub fn memory_is_no_fault()
+/// No file has the fault of running out of memory.
+pub fn no_file_has_the_fault_of_memory()
     ensures { MemoryIsNoFault }
 {}

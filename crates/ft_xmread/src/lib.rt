@@ -20,4 +20,4 @@ mod sample;
 
 pub use fault::XmFault;
 pub use file::read_xm;
-pub use laws::{memory_is_no_fault, one_answer_law};
+pub use laws::{no_file_has_the_fault_of_memory, one_answer_law};

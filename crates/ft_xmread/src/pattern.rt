@@ -4,8 +4,8 @@ ghost use Rattle.std.specs.Prelude.{◌≡◌, ◌≤◌, replicate, IfOk, IfErr
 ghost use Rattle.ft_format.specs.declared.layout.TheConstants.{PATTERN_HEAD, EMPTY_CELL};
 ghost use Rattle.ft_format.specs.declared.limits.TheConstants.{MOST_CHANNELS, MOST_ROWS};
 ghost use Rattle.ft_format.specs.Pattern.{rows_of};
-ghost use Rattle.ft_xmread.specs.Reader.{Reads, times};
-ghost use Rattle.ft_xmread.specs.Pattern.{cell_spelled_at, packing_at, pattern_head_at, cells_at, pattern_at};
+ghost use Rattle.ft_xmread.specs.Reader.{FileReads, times};
+ghost use Rattle.ft_xmread.specs.Pattern.{cell_spelled_at, packing_at, pattern_head_at, cells_spelled_at, pattern_at};
 
 use crate::cell::read_cell;
 use crate::fault::XmFault;
@@ -16,7 +16,7 @@ use std::alloc::Global;
 
 /// The packing, of which one is known.
 fn read_packing(reader: &mut Reader, number: u16) -> Result<u8, XmFault>
-    ensures { Reads (λ x. x) result reader.new (packing_at number reader.old) }
+    ensures { FileReads (λ x. x) result reader.new (packing_at number reader.old) }
 {
     let packing = reader.byte()?;
     if packing != PACKING {
@@ -30,7 +30,7 @@ fn read_packing(reader: &mut Reader, number: u16) -> Result<u8, XmFault>
 
 #[tactic(auto, unfolding(crate::specs::Pattern::pattern_head_at))]
 fn read_pattern_head(reader: &mut Reader, number: u16) -> Result<PatternHead, XmFault>
-    ensures value { Reads (λ x. x) result reader.new (pattern_head_at number reader.old) }
+    ensures value { FileReads (λ x. x) result reader.new (pattern_head_at number reader.old) }
     ensures size { IfOk result (λ head. PATTERN_HEAD ≤ head.size) }
     ensures rows { IfOk result (λ head. head.rows ≤ MOST_ROWS) }
 {
@@ -53,7 +53,7 @@ fn read_cells_in(
     number: u16,
     count: usize,
 ) -> Result<Vec<Cell>, XmFault>
-    ensures { Reads (λ cells. cells.items) result reader.new
+    ensures { FileReads (λ cells. cells.items) result reader.new
         (times (λ _. cell_spelled_at number) 0 count reader.old) }
 {
     let mut cells = Vec::with_capacity(alloc, count)?;
@@ -87,7 +87,7 @@ fn rows_of(head: PatternHead) -> u16
 
 /// The cells of a pattern, and the bytes that they leave of its data. No data is a pattern of
 /// empty cells.
-#[tactic(auto, unfolding(crate::specs::Pattern::cells_at))]
+#[tactic(auto, unfolding(crate::specs::Pattern::cells_spelled_at))]
 fn read_cells<'a>(
     alloc: Global,
     reader: &mut Reader<'a>,
@@ -95,8 +95,8 @@ fn read_cells<'a>(
     count: usize,
     packed: u16,
 ) -> Result<(Vec<Cell>, &'a [u8]), XmFault>
-    ensures { Reads (λ x. (x.0.items, x.1.now)) result reader.new
-        (cells_at number count packed reader.old) }
+    ensures { FileReads (λ x. (x.0.items, x.1.now)) result reader.new
+        (cells_spelled_at number count packed reader.old) }
 {
     if packed == 0 {
         let cells = empty_cells(alloc, count)?;
@@ -116,7 +116,7 @@ pub fn read_pattern(
     number: u16,
 ) -> Result<Pattern, XmFault>
     requires { channels ≤ MOST_CHANNELS }
-    ensures { Reads (λ x. x) result reader.new (pattern_at channels number reader.old) }
+    ensures { FileReads (λ x. x) result reader.new (pattern_at channels number reader.old) }
 {
     let head = read_pattern_head(reader, number)?;
     reader.field(head.size - PATTERN_HEAD)?;
@@ -137,7 +137,7 @@ pub fn read_patterns(
     count: u16,
 ) -> Result<Vec<Pattern>, XmFault>
     requires { channels ≤ MOST_CHANNELS }
-    ensures { Reads (λ patterns. patterns.items) result reader.new
+    ensures { FileReads (λ patterns. patterns.items) result reader.new
         (times (pattern_at channels) 0 count reader.old) }
 {
     let mut patterns = Vec::with_capacity(alloc, usize::from(count))?;

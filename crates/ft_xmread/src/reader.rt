@@ -1,7 +1,7 @@
 //! The cursor by which a file is read.
 
 ghost use Rattle.std.specs.Prelude.{◌≡◌, ◌≢◌, ◌+◌, ◌<◌, ◌≤◌, ◌^◌, length, IfOk, Err};
-ghost use Rattle.ft_xmread.specs.Reader.{Place, Reads, field_at, number_at, count_at, piece_at};
+ghost use Rattle.ft_xmread.specs.Reader.{FilePlace, FileReads, field_at, number_at, count_at, piece_at};
 
 use crate::fault::XmFault;
 use byteorder::{ByteOrder, LittleEndian};
@@ -16,9 +16,9 @@ pub struct Reader<'a> {
 
 impl<'a> Model for Reader<'a> {
     ghost use Rattle.std.specs.Prelude.{◌+◌, ◌<◌, ◌^◌, length};
-    ghost use Rattle.ft_xmread.specs.Reader.{Place};
+    ghost use Rattle.ft_xmread.specs.Reader.{FilePlace};
 
-    ghost Value = { Place };
+    ghost Value = { FilePlace };
 
     ghost view = { λ r. record { at = r.at; left = r.left.now } };
 
@@ -58,7 +58,7 @@ impl<'a> Reader<'a> {
     /// The next `need` bytes; `Short` where fewer are left.
     #[tactic(auto, unfolding(crate::specs::Reader::field_at))]
     pub fn field(&mut self, need: u32) -> Result<&'a [u8], XmFault>
-        ensures value { Reads (λ x. x.now) result self.new (field_at need self.old) }
+        ensures value { FileReads (λ x. x.now) result self.new (field_at need self.old) }
         ensures len { IfOk result (λ x. length x.now ≡ need) }
         ensures memory { result ≢ Err XmFault.NoMemory }
     {
@@ -74,7 +74,7 @@ impl<'a> Reader<'a> {
     /// A reader of the next `need` bytes alone; `Short` where fewer are left.
     #[tactic(auto, unfolding(crate::specs::Reader::piece_at, crate::specs::Reader::field_at))]
     pub fn piece(&mut self, need: u32) -> Result<Reader<'a>, XmFault>
-        ensures { Reads (λ x. x) result self.new (piece_at need self.old) }
+        ensures { FileReads (λ x. x) result self.new (piece_at need self.old) }
     {
         let at = self.at;
         let left = self.field(need)?;
@@ -84,7 +84,7 @@ impl<'a> Reader<'a> {
     /// The next bytes, as many as the array has.
     pub fn array<const N: usize>(&mut self) -> Result<[u8; N], XmFault>
         requires { N < 2 ^ 32 }
-        ensures { Reads (λ x. x) result self.new (field_at N self.old) }
+        ensures { FileReads (λ x. x) result self.new (field_at N self.old) }
     {
         let front = self.field(N as u32)?;
         let mut array = [0; N];
@@ -95,7 +95,7 @@ impl<'a> Reader<'a> {
     /// The next byte.
     #[tactic(auto, unfolding(crate::specs::Reader::number_at))]
     pub fn byte(&mut self) -> Result<u8, XmFault>
-        ensures { Reads (λ x. x) result self.new (number_at 1 self.old) }
+        ensures { FileReads (λ x. x) result self.new (number_at 1 self.old) }
     {
         let front = self.field(1)?;
         Ok(front[0])
@@ -104,7 +104,7 @@ impl<'a> Reader<'a> {
     /// The next number of two bytes, the low one first.
     #[tactic(auto, unfolding(crate::specs::Reader::number_at))]
     pub fn u16(&mut self) -> Result<u16, XmFault>
-        ensures { Reads (λ x. x) result self.new (number_at 2 self.old) }
+        ensures { FileReads (λ x. x) result self.new (number_at 2 self.old) }
     {
         let front = self.field(2)?;
         Ok(LittleEndian::read_u16(front))
@@ -113,7 +113,7 @@ impl<'a> Reader<'a> {
     /// The next number of four bytes, the low one first.
     #[tactic(auto, unfolding(crate::specs::Reader::number_at))]
     pub fn u32(&mut self) -> Result<u32, XmFault>
-        ensures { Reads (λ x. x) result self.new (number_at 4 self.old) }
+        ensures { FileReads (λ x. x) result self.new (number_at 4 self.old) }
     {
         let front = self.field(4)?;
         Ok(LittleEndian::read_u32(front))
@@ -121,7 +121,7 @@ impl<'a> Reader<'a> {
 
     /// The next number of two bytes; `Count` where it is over `most`.
     pub fn count(&mut self, most: u16) -> Result<u16, XmFault>
-        ensures value { Reads (λ x. x) result self.new (count_at most self.old) }
+        ensures value { FileReads (λ x. x) result self.new (count_at most self.old) }
         ensures limit { IfOk result (λ x. x ≤ most) }
     {
         let at = self.at;

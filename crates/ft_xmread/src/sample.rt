@@ -2,7 +2,7 @@
 
 ghost use Rattle.std.specs.Prelude.{◌≡◌, IfOk, IfErr, if◌then◌else◌};
 ghost use Rattle.ft_format.specs.Sample.{is_stereo, is_wide, in_frames, frame_count, loop_kind_of, loop_start_of, loop_len_of, is_unlooped, narrow_frames, wide_frames, sample_from};
-ghost use Rattle.ft_xmread.specs.Reader.{Reads};
+ghost use Rattle.ft_xmread.specs.Reader.{FileReads};
 ghost use Rattle.ft_xmread.specs.Sample.{sample_fields_at, whole_header_at, sample_header_at};
 
 use crate::deltas::{narrow_frames, wide_frames};
@@ -19,7 +19,7 @@ const PING_PONG: u8 = 2;
 /// The fields of a sample header.
 #[tactic(auto, unfolding(crate::specs::Sample::sample_fields_at))]
 fn read_fields(reader: &mut Reader) -> Result<SampleHeader, XmFault>
-    ensures { Reads (λ x. x) result reader.new (sample_fields_at reader.old) }
+    ensures { FileReads (λ x. x) result reader.new (sample_fields_at reader.old) }
 {
     let (length, loop_start, loop_len) = (reader.u32()?, reader.u32()?, reader.u32()?);
     let volume = reader.byte()?;
@@ -71,7 +71,7 @@ fn frame_count(header: &SampleHeader) -> u32
 
 /// A whole header, which is one field.
 fn read_whole_header(reader: &mut Reader) -> Result<SampleHeader, XmFault>
-    ensures { Reads (λ x. x) result reader.new (whole_header_at reader.old) }
+    ensures { FileReads (λ x. x) result reader.new (whole_header_at reader.old) }
 {
     let mut piece = reader.piece(SAMPLE_HEADER)?;
     read_fields(&mut piece)
@@ -84,7 +84,7 @@ pub fn read_sample_header(
     instrument: u16,
     number: u16,
 ) -> Result<SampleHeader, XmFault>
-    ensures { Reads (λ x. x) result reader.new (sample_header_at instrument number reader.old) }
+    ensures { FileReads (λ x. x) result reader.new (sample_header_at instrument number reader.old) }
 {
     let header = read_whole_header(reader)?;
     if is_stereo(&header) {

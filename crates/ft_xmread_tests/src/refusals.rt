@@ -8,7 +8,7 @@ use ft_xmread::{XmFault, read_xm};
 use std::alloc::{AllocError, Global};
 use std::test::Fail;
 
-/// Steps from the song of one note, and the fault of the bytes behind them.
+/// Steps from the song of one note, and the fault of the bytes after them.
 static REFUSALS: [(&[Step], XmFault); 72] = [
     (&[Put(0, 1, &[b'e'])], NotXm { at: 0 }),
     (&[Put(9, 10, &[b'N'])], NotXm { at: 9 }),
@@ -98,7 +98,8 @@ static REFUSALS: [(&[Step], XmFault); 72] = [
             at: 474,
         },
     ),
-    // The limit of a sample counts frames: its length and type, whose data would need so many bytes.
+    // The limit of a sample counts frames: its length and type, whose data would need that many
+    // bytes.
     (
         &[Put(738, 742, &[1, 0, 60, 0]), Put(752, 753, &[0])],
         TooLong {
@@ -286,7 +287,7 @@ static REFUSALS: [(&[Step], XmFault); 72] = [
     ),
 ];
 
-/// Whether the bytes behind these steps are refused by this fault.
+/// Whether the bytes after these steps are refused by this fault.
 fn is_refused(alloc: Global, steps: &[Step], fault: XmFault) -> Result<bool, AllocError> {
     let song = song_behind(alloc, steps)?;
     Ok(read_xm(alloc, &song).err() == Some(fault))

@@ -11,7 +11,7 @@ use std::test::Fail;
 /// The steps of the frames 1,000, -32,768 and 32,767, and a byte too many.
 const WIDE: &[u8] = &[0xE8, 0x03, 0x18, 0x7C, 0xFF, 0xFF, 0x55];
 
-/// Steps from the song of one note, and what is read of the bytes behind them.
+/// Steps from the song of one note, and what is read of the bytes after them.
 static SAMPLES: [(&[Step], Given); 28] = [
     // Frames are the sums of their steps, which wrap; the first is from 0.
     (&[Put(738, 739, &[0]), Put(778, 782, &[])], Frames(&[])),

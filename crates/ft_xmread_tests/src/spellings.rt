@@ -11,7 +11,7 @@ use ft_xmread::read_xm;
 use std::alloc::{AllocError, Global};
 use std::test::Fail;
 
-/// Steps of the header from the song of one note, and what is read of the bytes behind them.
+/// Steps of the header from the song of one note, and what is read of the bytes after them.
 static HEADERS: [(&[Step], Given); 24] = [
     (&[Put(76, 78, &[0, 0])], Tempo(1)),
     (&[Put(76, 78, &[1, 0])], Tempo(1)),
@@ -204,7 +204,8 @@ static OTHERS: [(&[Step], Given); 24] = [
         ],
         Head,
     ),
-    // What stands in the head of an instrument without samples is skipped, and the sample behind it is surplus.
+    // What is in the head of an instrument without samples is skipped, and the sample behind it is
+    // surplus.
     (
         &[
             Put(508, 511, &[3, 15, 16]),
@@ -282,7 +283,7 @@ fn gives(alloc: Global, song: &[u8], module: &Module) -> Result<bool, AllocError
     Ok(found == wanted)
 }
 
-/// Whether the bytes behind these steps give this.
+/// Whether the bytes after these steps give this.
 fn is_given(alloc: Global, steps: &[Step], given: Given) -> Result<bool, AllocError> {
     let song = song_behind(alloc, steps)?;
     let module = module_of(alloc, given)?;

@@ -10,11 +10,11 @@ pub enum Step<'a> {
     Put(usize, usize, &'a [u8]),
     /// The bytes from the first place to before the second are put in again at the third.
     Again(usize, usize, usize),
-    /// So many first bytes stay.
+    /// The first n bytes stay.
     Cut(usize),
 }
 
-/// Bytes behind a step.
+/// Bytes after a step.
 fn stepped(alloc: Global, song: &[u8], step: Step) -> Result<Vec<u8>, AllocError> {
     match step {
         Step::Put(from, to, bytes) => changed(alloc, song, &[Change { from, to, bytes }]),
@@ -27,7 +27,7 @@ fn stepped(alloc: Global, song: &[u8], step: Step) -> Result<Vec<u8>, AllocError
     }
 }
 
-/// The song of one note behind these steps.
+/// The song of one note after these steps.
 pub fn song_behind(alloc: Global, steps: &[Step]) -> Result<Vec<u8>, AllocError> {
     let mut song = one_note_song(alloc)?;
     for step in steps {

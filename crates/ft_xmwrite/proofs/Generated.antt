@@ -10,7 +10,7 @@ use Rattle.std.specs.List.{list_all, range_with_len}
 use Rattle.std.proofs.lemmas.List.Elements.{All-nil, All-cons, All-replicate}
 use Rattle.ft_types.specs.Valid.{IsBytes, IsValid, IsValidPattern, IsValidCell, IsValidInstrument, IsValidEnvelope, IsValidPoint, IsValidSample}
 use Rattle.ft_format.specs.declared.layout.TheConstants.{EMPTY_CELL, NO_ENVELOPE}
-use Rattle.ft_xmwrite.specs.Generate.{next, draw, drawn, effect_of, drawn_note, drawn_cell, drawn_pattern, drawn_frame, drawn_sample, drawn_instrument, generated}
+use Rattle.ft_xmwrite.specs.Generate.{next, draw, drawn, generated_effect, drawn_note, drawn_cell, drawn_pattern, drawn_frame, drawn_sample, drawn_instrument, generated}
 
 -- ---- drawn lists
 
@@ -33,7 +33,7 @@ draw_low n x some = mod_below (next x / 65536) n some
 
 -- ---- cells and patterns
 
-effect_low : (k : ℕ) → effect_of k < 256
+effect_low : (k : ℕ) → generated_effect k < 256
 effect_low zero = omega arith
 effect_low (suc zero) = omega arith
 effect_low (suc (suc zero)) = omega arith

@@ -1,4 +1,4 @@
--- What stands after several pieces were appended, one after the other.
+-- What is there after several pieces were appended, one after the other.
 use Rattle.std.proofs.Common.{◌≡◌, ℕ, List, ◌++◌, Result, append_assoc}
 use Rattle.std.specs.Prelude.{OnOk}
 use Rattle.std.proofs.lemmas.Result.{on_ok_weaker}

@@ -9,9 +9,9 @@ use Rattle.ft_types.specs.declared.instrument.Instrument.{Instrument}
 use Rattle.ft_types.specs.declared.sample.Sample.{Sample}
 use Rattle.ft_format.specs.declared.layout.TheConstants.{EMPTY_CELL, NO_ENVELOPE, NO_VIBRATO}
 
--- ---- drawing: a state gives a value, and the state behind it
+-- ---- drawing: a state gives a value, and the state after it
 
--- the state behind the next number
+-- the state after the next number
 unfoldable pub next : ℕ → ℕ
 next x = (1664525 * x + 1013904223) % 2 ^ 32
 
@@ -30,8 +30,8 @@ drawn (suc n) one x =
 -- ---- patterns
 
 -- one of the effects 0, 1, 4 and 10
-abbrev pub effect_of : ℕ → ℕ
-effect_of k = get_or (0 ∷ 1 ∷ 4 ∷ 10 ∷ []) k 0
+abbrev pub generated_effect : ℕ → ℕ
+generated_effect k = get_or (0 ∷ 1 ∷ 4 ∷ 10 ∷ []) k 0
 
 -- note, instrument, volume, effect and parameter, in this order
 unfoldable pub drawn_note : ℕ → Cell × ℕ
@@ -45,7 +45,7 @@ drawn_note x =
         note = 25 + note.0;
         instrument = 1 + instrument.0;
         volume = 16 + volume.0;
-        effect = effect_of effect.0;
+        effect = generated_effect effect.0;
         parameter = parameter.0;
       },
       parameter.1,

@@ -1,7 +1,7 @@
 //! What every part is made of: bytes, and numbers of two and four bytes, the low byte first.
 
 ghost use Rattle.std.specs.Prelude.{◌≡◌, ◌≤◌, ◌++◌, replicate, OnOk};
-ghost use Rattle.ft_format.specs.Fields.{byte, u16 as bytes_of_u16, u32 as bytes_of_u32};
+ghost use Rattle.ft_format.specs.Fields.{byte, two_bytes as bytes_of_u16, four_bytes as bytes_of_u32};
 
 use byteorder::{ByteOrder, LittleEndian};
 use ft_types::NoMemory;

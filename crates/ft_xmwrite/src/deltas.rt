@@ -2,7 +2,7 @@
 
 ghost use Rattle.std.specs.Prelude.{◌≡◌, ◌++◌, ◌^◌, All, FitsSigned, map, flat_map, OnOk};
 ghost use Rattle.std.specs.Int.{w8, w16, cast_unsigned};
-ghost use Rattle.ft_format.specs.Fields.{u16 as bytes_of_u16};
+ghost use Rattle.ft_format.specs.Fields.{two_bytes as bytes_of_u16};
 ghost use Rattle.ft_format.specs.Canon.{steps_from};
 
 use ft_types::NoMemory;

@@ -30,10 +30,10 @@ fn orders(alloc: Global) -> Result<Orders, NoMemory>
     Ok(Orders::from_vec(orders))
 }
 
-/// The generated song of a number: 40 patterns of 64 rows and 8 channels, each played once at tempo 6
-/// and BPM 125 with linear periods, and 16 instruments of one wide sample of 16,384 looped frames.
-/// About one cell in four has a note. The same number gives the same song. The only error is want of
-/// memory.
+/// The generated song of a number: 40 patterns of 64 rows and 8 channels, each played once at tempo
+/// 6 and BPM 125 with linear periods, and 16 instruments of one wide sample of 16,384 looped
+/// frames. About one cell in four has a note. The same number gives the same song. The only error
+/// is running out of memory.
 #[tactic(auto, unfolding(crate::specs::Generate::generated))]
 pub fn generate(alloc: Global, number: u32) -> Result<Module, NoMemory>
     ensures value { IfOk result (λ song. song ≡ generated number) }

@@ -28,7 +28,7 @@ fn instrument_head_of(instrument: &Instrument) -> InstrumentHead
     }
 }
 
-/// What stands in the head of an instrument with samples.
+/// What is in the head of an instrument with samples.
 fn extra_of(instrument: &Instrument) -> Extra
     ensures { result ≡ extra_of instrument.now }
 {
@@ -145,7 +145,7 @@ fn put_vibrato(bytes: &mut Vec<u8>, vibrato: &Vibrato) -> Result<(), NoMemory>
     )
 }
 
-/// What stands in the head of an instrument with samples, 212 bytes.
+/// What is in the head of an instrument with samples, 212 bytes.
 #[tactic(auto, unfolding(ft_format::specs::Instrument::extra_text))]
 fn put_extra(bytes: &mut Vec<u8>, extra: &Extra) -> Result<(), NoMemory>
     ensures { OnOk result (bytes.new.items ≡ bytes.old.items ++ extra_text extra.now) }
@@ -157,8 +157,8 @@ fn put_extra(bytes: &mut Vec<u8>, extra: &Extra) -> Result<(), NoMemory>
     put_u16(bytes, extra.fadeout)
 }
 
-/// What stands behind the first 29 bytes of the head of an instrument with samples: the rest of the
-/// head, all sample headers, and then the data of each sample.
+/// What follows the first 29 bytes of the head of an instrument with samples: the rest of the head,
+/// all sample headers, and then the data of each sample.
 fn put_rest(bytes: &mut Vec<u8>, instrument: &Instrument) -> Result<(), NoMemory>
     requires { IsValidInstrument instrument.now }
     ensures { OnOk result (bytes.new.items ≡ bytes.old.items
@@ -173,7 +173,7 @@ fn put_rest(bytes: &mut Vec<u8>, instrument: &Instrument) -> Result<(), NoMemory
     put_samples_data(bytes, samples)
 }
 
-/// An instrument: its head, and where it has samples what stands behind it.
+/// An instrument: its head, and where it has samples what follows it.
 fn put_instrument(bytes: &mut Vec<u8>, instrument: &Instrument) -> Result<(), NoMemory>
     requires { IsValidInstrument instrument.now }
     ensures { OnOk result (bytes.new.items ≡ bytes.old.items ++ instrument_bytes instrument.now) }

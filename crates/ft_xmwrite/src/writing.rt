@@ -23,7 +23,7 @@ fn file_len(song: &Module) -> usize
 
 /// The canonical bytes of a valid song, as a file of the Extended Module format, version 1.04.
 ///
-/// `valid` of ft_types says whether a song is valid. An `Err` says that memory was wanting.
+/// `valid` of ft_types says whether a song is valid. An `Err` says that memory ran out.
 pub fn write_xm(alloc: Global, song: &Module) -> Result<Vec<u8>, NoMemory>
     requires { IsValid song.now }
     // The canonical bytes of the song,

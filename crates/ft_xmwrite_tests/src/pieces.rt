@@ -33,7 +33,7 @@ const FULL: Cell = Cell {
 /// How many bytes each song has.
 static LENGTHS: [(Song, usize); 4] = [(Silent, 336), (OneNote, 782), (Full, 351), (Wide, 647)];
 
-/// A song, a place, and the bytes that stand there.
+/// A song, a place, and the bytes that are there.
 static PIECES: [(Song, usize, &[u8]); 10] = [
     (Silent, 0, b"Extended Module: "),
     (Silent, 37, &[0x1A]),
@@ -84,7 +84,7 @@ fn with_sample(alloc: Global, sample: Sample) -> Result<Module, AllocError> {
     })
 }
 
-/// This song with a pattern of so many rows and this first cell.
+/// This song with a pattern of that many rows and this first cell.
 fn with_pattern(alloc: Global, song: Module, rows: u16, first: Cell) -> Result<Module, AllocError> {
     let pattern = pattern_of(alloc, rows, first)?;
     Ok(Module {
@@ -142,14 +142,14 @@ fn first_wrong_length(alloc: Global) -> Result<Option<usize>, AllocError> {
     Ok(None)
 }
 
-/// Whether these bytes stand at a place.
+/// Whether these bytes are at a place.
 fn stands(bytes: &[u8], at: usize, piece: &[u8]) -> bool {
     bytes
         .get(at..)
         .is_some_and(|rest| rest.get(..piece.len()) == Some(piece))
 }
 
-/// The first piece that doesn't stand at its place.
+/// The first piece that isn't at its place.
 fn first_wrong_piece(alloc: Global) -> Result<Option<usize>, AllocError> {
     for (number, (song, at, piece)) in PIECES.iter().enumerate() {
         let bytes = written(alloc, *song)?;

@@ -1,7 +1,7 @@
 //! Patterns of a generated song.
 
 ghost use Rattle.std.specs.Prelude.{◌≡◌, ◌<◌, IfOk};
-ghost use Rattle.ft_xmwrite.specs.Generate.{effect_of, drawn_note, drawn_cell, drawn_pattern, drawn};
+ghost use Rattle.ft_xmwrite.specs.Generate.{generated_effect, drawn_note, drawn_cell, drawn_pattern, drawn};
 
 use crate::generator::draws::Draws;
 use ft_format::EMPTY_CELL;
@@ -20,7 +20,7 @@ const EFFECTS: [u8; 4] = [0, 1, 4, 10];
 
 fn effect_of(k: u32) -> u8
     requires { k < 4 }
-    ensures { result ≡ effect_of k }
+    ensures { result ≡ generated_effect k }
 {
     EFFECTS[k as usize]
 }

@@ -1,7 +1,7 @@
 use Rattle.std.proofs.Common.{◌≡◌, ◌+◌, ◌*◌, ◌≤◌, Option, length, take, drop, ap, ◌∙◌, subst, arith}
 use Rattle.std.proofs.lemmas.List.{length-take, length-drop}
 use Rattle.ft_types.specs.declared.pattern.Pattern.{Pattern}
-use Rattle.ft_types.specs.Views.{rows_in}
+use Rattle.ft_types.specs.Views.{row_count}
 use Rattle.ft_edits.specs.Patterns.{copied}
 use Rattle.ft_check.specs.Blocks.{cells_in, from_rows}
 use Rattle.ft_check.proofs.BlockCells.{is_there, block_long, block_same, copied_same}
@@ -35,7 +35,7 @@ returns-clause-ok c =
     ∙ ap (λ (it : Option Pattern). take (block.h * song.channels) (drop (c.args.r * song.channels) (cells_in it))) f.1
     in
     let there : c.args.r + block.h ≤ f.0.rows =
-    subst (λ (it : Option Pattern). c.args.r + block.h ≤ rows_in it) f.1 c.requires.from.1 in
+    subst (λ (it : Option Pattern). c.args.r + block.h ≤ row_count it) f.1 c.requires.from.1 in
     c.paste_block.ensures
     ∙ block_same song c.args.q block.r block.c block.h block.w
     (from_rows song.channels c.as_slice.result.now c.args.c block.r block.c)

@@ -1,5 +1,5 @@
 use Rattle.std.proofs.Common.{rules, ℕ, sym, ap, subst, ◌∙◌}
-use Rattle.ft_shared.specs.History.{place_of, Agrees}
+use Rattle.ft_shared.specs.History.{root_and_pool, Agrees}
 use Rattle.std.specs.Prelude.{◌≡◌, Some}
 use Rattle.ft_shared.specs.Pass.{RegisterId, ReaderState}
 use Rattle.ft_image.specs.Passes.{IsAmong}
@@ -10,8 +10,8 @@ returns-clause-rows g c = λ history taken placed song agrees held root found am
     let law = c.a_held_version_may_be_shown.ensures in
     let new = c.rows.new.view.pass.now in
     let register = ap (λ (x : ReaderState). x.register) c.rows.ensures.same.3.is ∙ c.requires.same in
-    let all = subst (λ (n : ℕ). IsAmong n (place_of placed)) (sym (ap (λ (r : RegisterId). r.sizes.segments) register)) among in
+    let all = subst (λ (n : ℕ). IsAmong n (root_and_pool placed)) (sym (ap (λ (r : RegisterId). r.sizes.segments) register)) among in
     let a : Agrees history new.notes = search (rules, agrees) in
     let h : new.notes.held ≡ Some taken = search (rules, held) in
-    c.rows.ensures.answer (place_of placed) song (law.all new history taken placed a h found all) shows
+    c.rows.ensures.answer (root_and_pool placed) song (law.all new history taken placed a h found all) shows
     (law.root new history taken placed a h found ∙ root)

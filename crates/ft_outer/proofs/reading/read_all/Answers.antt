@@ -2,7 +2,7 @@ use Rattle.std.proofs.Common.{◌++◌, take, arith}
 use Rattle.ft_outer.proofs.Gave.{Gives-then, Gives-read, GivesAll-end, HasMore-gave}
 use Rattle.ft_outer.proofs.reading.read_all.Goals as goal
 
--- the end was told
+-- the end was answered
 pub returns-then-count-eq0-clause-whole : goal.returns-then-count-eq0-clause-whole
 returns-then-count-eq0-clause-whole g c =
     let read = c.in_ok-count.ensures.bytes in

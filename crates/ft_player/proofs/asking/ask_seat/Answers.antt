@@ -7,7 +7,7 @@ use Rattle.ft_types.specs.Views.{Owned, frame_of}
 use Rattle.ft_image.specs.Values.{frames_word}
 use Rattle.ft_player.specs.declared.seat.Seat.{Seat}
 use Rattle.ft_player.specs.Songs.{song_at, place_at}
-use Rattle.ft_player.specs.Seats.{frames_in}
+use Rattle.ft_player.specs.Seats.{owned_frames}
 use Rattle.ft_player.proofs.Ranged.{frame_ranged}
 use Rattle.ft_player.proofs.Seated.{seat_sample}
 use Rattle.ft_player.proofs.asking.ask_seat.Goals as goal
@@ -21,7 +21,7 @@ returns-clause-value g c = λ songs stands seated.
     let valid = c.a_shown_sample_is_of_its_version.ensures.valid (place_at songs seat.version) (song_at songs seat.version) seat.root
     x s.shows s.of in
     let value = c.word_for-word.ensures.word songs stands seated
-    ∙ ap (λ (o : Option Owned). frames_word (frames_in o) (place / 4)) s.is in
+    ∙ ap (λ (o : Option Owned). frames_word (owned_frames o) (place / 4)) s.is in
     let frame = c.frame_in.ensures x valid value in
     let inside : place < length x.frames
     = subst (λ (h : SampleHead). place < h.frames) (sym s.headed) c.requires.inside in

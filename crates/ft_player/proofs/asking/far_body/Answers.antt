@@ -1,7 +1,7 @@
 use Rattle.std.proofs.Common.{rules, ◌≡◌, ◌<◌, ◌/◌, ℕ, ap, subst, ◌∙◌, arith}
 use Rattle.ft_image.specs.Read.{body_at}
 use Rattle.ft_player.specs.Songs.{song_at, place_at}
-use Rattle.ft_player.specs.Behind.{Stands}
+use Rattle.ft_player.specs.Behind.{AreSongsBehind}
 use Rattle.ft_player.proofs.Seated.{pinned_sample}
 use Rattle.ft_player.proofs.asking.far_body.Goals as goal
 
@@ -10,7 +10,7 @@ returns-clause-body g c = λ songs stands seated.
     let a = c.args in
     let seat = a.seat.now in
     let new = c.body_of_frame.new.view.pass.now in
-    let now : Stands songs new = search (rules, stands) in
+    let now : AreSongsBehind songs new = search (rules, stands) in
     let p = pinned_sample c.a_pinned_sample_may_be_shown.ensures songs a.pass.now new a.channel
     c.body_of_frame.new.view.channel seat c.body_of_frame.ensures.same.4 c.body_of_frame.ensures.same.1 c.requires.pinned now seated in
     let inside = subst (λ (n : ℕ). a.place < n) p.many c.requires.inside in

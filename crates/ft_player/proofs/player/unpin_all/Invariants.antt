@@ -3,8 +3,7 @@ use Rattle.ft_image.specs.Passes.{AreCounted}
 use Rattle.ft_player.proofs.Closing.{IsCleared}
 use Rattle.ft_player.proofs.player.unpin_all.Given as goal
 
--- So many pins were taken away,
--- and each store is counted.
+-- That many pins were taken away, and each store is counted.
 abbrev pub invariant-loop-channel : goal.invariant-loop-channel
 invariant-loop-channel g l = IsCleared l.channel l.initial.pass l.pass
     × AreCounted l.initial.pass l.pass l.initial.steps l.steps × (l.steps ≡ l.initial.steps + l.channel)

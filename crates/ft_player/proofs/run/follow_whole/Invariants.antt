@@ -6,12 +6,12 @@ use Rattle.ft_types.specs.Work.{body_of}
 use Rattle.ft_image.specs.Passes.{HasReadOn, AreCounted}
 use Rattle.ft_player.specs.declared.songs.Songs.{Songs}
 use Rattle.ft_player.specs.Seats.{owned_by, IsWordOf, IsSeatOf}
-use Rattle.ft_player.specs.Behind.{Stands}
+use Rattle.ft_player.specs.Behind.{AreSongsBehind}
 use Rattle.ft_player.proofs.run.follow_whole.Given as goal
 
 abbrev pub invariant-loop-k : goal.invariant-loop-k
 invariant-loop-k g l = record {
-  words : (songs : Songs) → Stands songs l.pass → IsSeatOf songs l.seat → IsWordOf songs l.seat l.fn.from
+  words : (songs : Songs) → AreSongsBehind songs l.pass → IsSeatOf songs l.seat → IsWordOf songs l.seat l.fn.from
       → IsWordOf songs l.seat l.trail.newest × IsWordOf songs l.seat l.trail.older
       × ((j : ℕ) → j < 4 * l.k
       → get_or l.out j (pos 0) ≡ frame_of (owned_by songs (Some l.seat)) (4 * (l.fn.from.number + 1) + j));

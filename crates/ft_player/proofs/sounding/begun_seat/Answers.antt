@@ -5,7 +5,7 @@ use Rattle.ft_shared.specs.Pass.{RegisterId, ReaderState}
 use Rattle.ft_image.specs.PassLaws.{reads_through}
 use Rattle.ft_player.specs.Songs.{song_at, place_at}
 use Rattle.ft_player.specs.Seats.{IsSeatOf}
-use Rattle.ft_player.specs.Behind.{Stands}
+use Rattle.ft_player.specs.Behind.{AreSongsBehind}
 use Rattle.ft_player.proofs.Held.{held_song}
 use Rattle.ft_player.proofs.Beginning.{begins_none, begins_unsound, new_seat}
 use Rattle.ft_player.proofs.BegunRead.{begun_read}
@@ -15,7 +15,7 @@ pub returns-in_default-clause-begins : goal.returns-in_default-clause-begins
 returns-in_default-clause-begins g c = λ songs stands.
     let a = c.args in
     let new = c.sample_root.new.view.pass.now in
-    let now : Stands songs new = search (rules, stands) in
+    let now : AreSongsBehind songs new = search (rules, stands) in
     let h = held_song songs a.pass.now new a.version a.root c.sample_root.ensures.same.3 c.requires.held now in
     let missing = c.sample_root.ensures.missing (place_at songs a.version) (song_at songs a.version) h.may h.shows h.rooted in
     begins_none a.version (song_at songs a.version) a.instrument a.note (ap is_some (sym c.in_default.is) ∙ missing)
@@ -27,7 +27,7 @@ returns-then-found-segments-clause-begins g c = λ songs stands.
     let song = song_at songs a.version in
     let mid = c.sample_root.new.view.pass.now in
     let new = c.sample_head-head.new.view.pass.now in
-    let now : Stands songs new = search (rules, stands) in
+    let now : AreSongsBehind songs new = search (rules, stands) in
     let b = begun_read songs a.pass.now mid new a.version a.root a.instrument a.note c.in-Some.found c.sample_head-head.result
     c.sample_root.result c.sample_root.ensures.same.3 c.sample_head-head.ensures.same.3 c.requires.held now c.in-Some.is
     c.sample_root.ensures.answer c.sample_root.ensures.missing c.sample_head-head.ensures.narrows c.sample_head-head.ensures.answer in
@@ -48,7 +48,7 @@ returns-then-not-can_sound-clause-begins g c = λ songs stands.
     let song = song_at songs a.version in
     let mid = c.sample_root.new.view.pass.now in
     let new = c.sample_head-head.new.view.pass.now in
-    let now : Stands songs new = search (rules, stands) in
+    let now : AreSongsBehind songs new = search (rules, stands) in
     let b = begun_read songs a.pass.now mid new a.version a.root a.instrument a.note c.in-Some.found c.sample_head-head.result
     c.sample_root.result c.sample_root.ensures.same.3 c.sample_head-head.ensures.same.3 c.requires.held now c.in-Some.is
     c.sample_root.ensures.answer c.sample_root.ensures.missing c.sample_head-head.ensures.narrows c.sample_head-head.ensures.answer in
@@ -62,7 +62,7 @@ returns-clause-seated g c = λ songs seat stands e.
     let a = c.args in
     let mid = c.sample_root.new.view.pass.now in
     let new = c.sample_head-head.new.view.pass.now in
-    let now : Stands songs new = search (rules, stands) in
+    let now : AreSongsBehind songs new = search (rules, stands) in
     let b = begun_read songs a.pass.now mid new a.version a.root a.instrument a.note c.in-Some.found c.sample_head-head.result
     c.sample_root.result c.sample_root.ensures.same.3 c.sample_head-head.ensures.same.3 c.requires.held now c.in-Some.is
     c.sample_root.ensures.answer c.sample_root.ensures.missing c.sample_head-head.ensures.narrows c.sample_head-head.ensures.answer in

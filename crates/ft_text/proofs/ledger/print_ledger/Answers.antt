@@ -1,4 +1,4 @@
--- the parts of the ledger, one behind the other
+-- the parts of the ledger, one after the other
 use Rattle.std.proofs.Common.{◌∙◌, length, map}
 use Rattle.ft_text.specs.Ledger.{ledger_text, ledger_lines, head_line, play_line, entry_line, refusal_line, tick_lines, hand_line, saved_lines, end_line}
 use Rattle.ft_text.proofs.Joined.{parts, first_line}

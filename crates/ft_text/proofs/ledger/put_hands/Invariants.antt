@@ -1,7 +1,7 @@
--- the lines of the hands that were passed stand behind what stood there
+-- the lines of the hands that were passed are behind what was there
 use Rattle.std.proofs.Common.{◌≡◌, ◌++◌, map, take}
-use Rattle.ft_text.specs.Ledger.{joined, hand_line}
+use Rattle.ft_text.specs.Ledger.{joined_lines, hand_line}
 use Rattle.ft_text.proofs.ledger.put_hands.Given as goal
 
 abbrev pub invariant-loop-end : goal.invariant-loop-end
-invariant-loop-end l = l.text.items ≡ l.initial.text.items ++ joined (map hand_line (take l.end-index l.hands))
+invariant-loop-end l = l.text.items ≡ l.initial.text.items ++ joined_lines (map hand_line (take l.end-index l.hands))

@@ -1,7 +1,7 @@
--- the lines of the refusals that were passed stand behind what stood there
+-- the lines of the refusals that were passed are behind what was there
 use Rattle.std.proofs.Common.{◌≡◌, ◌++◌, map, take}
-use Rattle.ft_text.specs.Ledger.{joined, refusal_line}
+use Rattle.ft_text.specs.Ledger.{joined_lines, refusal_line}
 use Rattle.ft_text.proofs.ledger.put_refusals.Given as goal
 
 abbrev pub invariant-loop-i : goal.invariant-loop-i
-invariant-loop-i l = l.text.items ≡ l.initial.text.items ++ joined (map (refusal_line 2) (take l.i l.journal.refusals))
+invariant-loop-i l = l.text.items ≡ l.initial.text.items ++ joined_lines (map (refusal_line 2) (take l.i l.journal.refusals))

@@ -1,7 +1,7 @@
--- the lines of the ticks that were passed stand behind what stood there
+-- the lines of the ticks that were passed are behind what was there
 use Rattle.std.proofs.Common.{◌≡◌, ◌++◌, take}
-use Rattle.ft_text.specs.Ledger.{joined, tick_lines}
+use Rattle.ft_text.specs.Ledger.{joined_lines, tick_lines}
 use Rattle.ft_text.proofs.ledger.put_ticks.Given as goal
 
 abbrev pub invariant-loop-n : goal.invariant-loop-n
-invariant-loop-n l = l.text.items ≡ l.initial.text.items ++ joined (tick_lines 0 (take l.n l.ticks))
+invariant-loop-n l = l.text.items ≡ l.initial.text.items ++ joined_lines (tick_lines 0 (take l.n l.ticks))

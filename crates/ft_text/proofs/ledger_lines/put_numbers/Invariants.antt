@@ -1,4 +1,4 @@
--- the numbers that were passed stand behind what stood there
+-- the numbers that were passed are behind what was there
 use Rattle.std.proofs.Common.{◌≡◌, ◌++◌, map, take, decimal}
 use Rattle.ft_text.specs.Texts.{spaced}
 use Rattle.ft_text.proofs.ledger_lines.put_numbers.Given as goal

@@ -1,5 +1,5 @@
 use Rattle.std.proofs.Common.{◌≡◌, ◌≤◌, ◌+◌, ◌++◌, ◌∷◌, [], rules, arith, sym, ap, subst, ◌∙◌}
-use Rattle.ft_text.specs.Record.{Ascend, HasCause}
+use Rattle.ft_text.specs.Record.{Ascend, HasHandCause}
 use Rattle.ft_text.proofs.Pushed.{all_pushed, next_hand, next_pushed, ascend_pushed}
 use Rattle.ft_text.proofs.ManyLines.{one_more, none_more, no_line}
 use Rattle.ft_text.proofs.ledger_read.hands.Goals as goal
@@ -20,7 +20,7 @@ loop-line-preserved c =
           (search rules) after longer;
       least = after ∙ sym (next_pushed 0 ends end) ∙ ap (next_hand 0) (sym longer);
       ascending = subst (λ xs. Ascend 0 xs) (sym longer) (ascend_pushed 0 ends end c.loop-line.invariant.ascending above);
-      causes = all_pushed HasCause ends end c.push.new.self.items longer c.loop-line.invariant.causes (search rules);
+      causes = all_pushed HasHandCause ends end c.push.new.self.items longer c.loop-line.invariant.causes (search rules);
     }
 
 pub returns-clause-read : goal.returns-clause-read

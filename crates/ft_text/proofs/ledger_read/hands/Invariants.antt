@@ -1,6 +1,6 @@
 -- what was read so far
 use Rattle.std.proofs.Common.{◌≡◌, ◌+◌, ℕ, All, length}
-use Rattle.ft_text.specs.Record.{Ascend, HasCause}
+use Rattle.ft_text.specs.Record.{Ascend, HasHandCause}
 use Rattle.ft_text.proofs.Pushed.{next_hand}
 use Rattle.ft_text.specs.LedgerWords.{said, hand}
 use Rattle.ft_text.proofs.ManyLines.{IsRead}
@@ -14,5 +14,5 @@ invariant-loop-line l = record {
   so_far : IsRead {S = ℕ} (λ least. said (hand least)) (λ least end. end.hand + 1) 0 l.least l.initial.lines l.lines l.hands.items;
   least : l.least ≡ next_hand 0 l.hands.items;
   ascending : Ascend 0 l.hands.items;
-  causes : All HasCause l.hands.items;
+  causes : All HasHandCause l.hands.items;
 }

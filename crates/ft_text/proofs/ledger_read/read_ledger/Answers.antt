@@ -1,6 +1,6 @@
--- each part can be told
+-- each part can be written
 use Rattle.std.proofs.Common.{sym, subst, All}
-use Rattle.ft_text.specs.Record.{Ascend, CanBeEntered, HasCause}
+use Rattle.ft_text.specs.Record.{Ascend, CanBeEntered, HasHandCause}
 use Rattle.ft_text.proofs.ledger_read.read_ledger.Goals as goal
 
 pub returns-clause-tellable : goal.returns-clause-tellable
@@ -9,5 +9,5 @@ returns-clause-tellable c = record {
   entries = subst (λ es. All CanBeEntered es) (sym c.in_ok-refusals.ensures.entries) c.in_ok-entries.ensures.given;
   refusals = c.in_ok-refusals.ensures.given;
   ascending = subst (λ hands. Ascend 0 hands) (sym c.from_vec-2.ensures) c.in_ok-hands.ensures.ascending;
-  causes = subst (λ hands. All HasCause hands) (sym c.from_vec-2.ensures) c.in_ok-hands.ensures.causes;
+  causes = subst (λ hands. All HasHandCause hands) (sym c.from_vec-2.ensures) c.in_ok-hands.ensures.causes;
 }

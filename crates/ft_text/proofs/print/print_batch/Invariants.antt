@@ -1,4 +1,4 @@
--- the edits that were passed, behind the first
+-- the edits that were passed, after the first
 use Rattle.std.proofs.Common.{◌≡◌, ◌++◌, take, codes}
 use Rattle.std.specs.List.{flat_map}
 use Rattle.ft_text.specs.Texts.{edit_text}

@@ -1,4 +1,4 @@
--- the numbers that were passed stand behind what stood there
+-- the numbers that were passed are behind what was there
 use Rattle.std.proofs.Common.{◌≡◌, ◌++◌, map, take}
 use Rattle.std.specs.Fmt.{signed_decimal}
 use Rattle.ft_text.specs.Texts.{spaced}

@@ -6,7 +6,7 @@ use Rattle.ft_image.specs.Laid.{song_laid}
 use Rattle.std.specs.Vec.{vec_capacity}
 use Rattle.ft_types.specs.Blocks.{blocks_of}
 use Rattle.ft_retire.specs.Births.{BirthsState}
-use Rattle.ft_desk.specs.Desk.{DeskState, IsDesk, IsOpened, desk_of, opening_births, parts_of}
+use Rattle.ft_desk.specs.Desk.{DeskState, IsDesk, IsOpened, desk_of, opening_births, born_parts}
 use Rattle.ft_desk.specs.Parts.{opening_parts}
 use Rattle.ft_desk.proofs.Opened.{filled_up, opened_desk, writer_is, opened_parts, unplaced}
 use Rattle.ft_desk.proofs.desk.Desk.open.Goals as goal
@@ -70,7 +70,7 @@ returns-clause-parts c =
     c.in_ok-shared.ensures.writer c.root.ensures c.words.ensures long in
     let up = filled_up c.shown_stays.ensures shared.sizes.segments image c.args.m.now c.in-Ok.ensures.shows fits few in
     let laid = song_laid c.args.m.now in
-    ap parts_of c.on-desk.ensures
+    ap born_parts c.on-desk.ensures
     ∙ (opened_parts shared c.args.version (pool_of shared.sizes.segments image) laid c.in_ok-shared.pass (up.0 ∙ c.in-Ok.ensures.laid) is
     ∙ ap (λ (n : ℕ). opening_parts n c.args.version laid) long)
 

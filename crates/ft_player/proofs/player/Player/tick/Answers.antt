@@ -1,7 +1,7 @@
 use Rattle.std.proofs.Common.{rules, ◌≡◌, ◌≤◌, ◌+◌, refl, sym, ap, subst, ◌∙◌}
 use Rattle.ft_shared.specs.Pass.{ReaderState, RegisterId}
 use Rattle.ft_image.specs.Passes.{AreCounted}
-use Rattle.ft_player.specs.Behind.{Stands}
+use Rattle.ft_player.specs.Behind.{AreSongsBehind}
 use Rattle.ft_player.specs.Inner.{player_state}
 use Rattle.ft_replay.specs.Tick.{seq_tick, tick_state_of}
 use Rattle.ft_play.specs.Mixed.{voices_of}
@@ -51,7 +51,7 @@ returns-clause-played g c = λ songs stands.
     c.renew-held.ensures.renewed o.taken m.0 in
     let version = c.renew-held.result.version in
     let song = song_at songs version in (
-      subst (λ (p : PlayerState). Stands songs p.pass) c.self.view_is before,
+      subst (λ (p : PlayerState). AreSongsBehind songs p.pass) c.self.view_is before,
       record {
         place = t.place songs stands
             ∙ ap (λ (p : PlayerState). (seq_tick version song p.rate (stood_by songs p)).place) c.self.view_is;

@@ -8,7 +8,7 @@ use Rattle.ft_types.specs.Work.{asked, word_of}
 use Rattle.ft_shared.specs.Pass.{ReaderState}
 use Rattle.ft_player.specs.declared.seat.Seat.{Seat}
 use Rattle.ft_player.specs.Songs.{song_at}
-use Rattle.ft_player.specs.Seats.{head_in, pin_in, words_in, owned_by, reworded}
+use Rattle.ft_player.specs.Seats.{head_in, pin_in, seat_words, owned_by, reworded}
 use Rattle.ft_player.specs.BehindLaws.{played_read, owned_at, words_at}
 use Rattle.ft_player.proofs.Seated.{same_at, asked_seated, head_at, reworded_head, reworded_pin, reworded_owned, reworded_some}
 use Rattle.ft_player.proofs.view.PlayerViewSongView.frame.Goals as goal
@@ -78,7 +78,7 @@ returns-clause-words g c =
     let new = reworded c.ask.ensures.rest.0 (get_or seats channel None) in
     let at = ap (λ (l : List (Option Seat)). get_or l channel None) c.ask.ensures.rest.1
     ∙ get_or-set_same seats channel new None inside in
-    ap (map words_in) c.ask.ensures.rest.1 ∙ map-set words_in seats channel new
-    ∙ ap (set (map words_in seats) channel)
-    (sym (ap words_in at) ∙ c.ask.ensures.words
+    ap (map seat_words) c.ask.ensures.rest.1 ∙ map-set seat_words seats channel new
+    ∙ ap (set (map seat_words seats) channel)
+    (sym (ap seat_words at) ∙ c.ask.ensures.words
     ∙ ap (asked (word_of c.args.place)) (sym (words_at seats channel)))

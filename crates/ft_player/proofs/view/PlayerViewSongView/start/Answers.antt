@@ -6,7 +6,7 @@ use Rattle.ft_types.specs.Views.{Owned, head_of_owned, keeping}
 use Rattle.ft_shared.specs.Pass.{ReaderState}
 use Rattle.ft_shared.specs.declared.law.Pin.{Pin}
 use Rattle.ft_player.specs.declared.seat.Seat.{Seat}
-use Rattle.ft_player.specs.Seats.{head_in, pin_in, words_in, IsSeated}
+use Rattle.ft_player.specs.Seats.{head_in, pin_in, seat_words, IsSeated}
 use Rattle.ft_player.specs.Behind.{shown_by}
 use Rattle.ft_player.specs.BehindLaws.{played_read}
 use Rattle.ft_player.proofs.Seated.{set_seated, sets, keeps_else, head_owned, has_head, head_valid, no_words, began}
@@ -88,6 +88,6 @@ returns-clause-began g c =
 pub returns-clause-words : goal.returns-clause-words
 returns-clause-words g c =
     let seats = c.args.self.now.seats.now.items in
-    ap (map words_in) c.sit.ensures.seats
-    ∙ map-set words_in seats c.args.channel c.begun_seat-seat.result
-    ∙ ap (set (map words_in seats) c.args.channel) (no_words c.begun_seat-seat.result _ _ c.begun_seat-seat.ensures.new)
+    ap (map seat_words) c.sit.ensures.seats
+    ∙ map-set seat_words seats c.args.channel c.begun_seat-seat.result
+    ∙ ap (set (map seat_words seats) c.args.channel) (no_words c.begun_seat-seat.result _ _ c.begun_seat-seat.ensures.new)

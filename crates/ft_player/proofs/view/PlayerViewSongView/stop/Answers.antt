@@ -3,7 +3,7 @@ use Rattle.std.proofs.lemmas.List.{length-map, length-set, map-set}
 use Rattle.ft_shared.specs.Pass.{ReaderState}
 use Rattle.ft_shared.specs.declared.law.Pin.{Pin}
 use Rattle.ft_player.specs.declared.seat.Seat.{Seat}
-use Rattle.ft_player.specs.Seats.{pin_in, words_in, IsSeated}
+use Rattle.ft_player.specs.Seats.{pin_in, seat_words, IsSeated}
 use Rattle.ft_player.specs.Behind.{shown_by}
 use Rattle.ft_player.proofs.Seated.{set_seated, none_seated, sets}
 use Rattle.ft_player.proofs.view.PlayerViewSongView.stop.Goals as goal
@@ -40,4 +40,4 @@ returns-clause-holds g c =
 
 pub returns-clause-words : goal.returns-clause-words
 returns-clause-words g c =
-    ap (map words_in) c.sit.ensures.seats ∙ map-set words_in c.args.self.now.seats.now.items c.args.channel None
+    ap (map seat_words) c.sit.ensures.seats ∙ map-set seat_words c.args.self.now.seats.now.items c.args.channel None

@@ -1,6 +1,6 @@
 use Rattle.std.proofs.Common.{rules, ◌≡◌, ◌≤◌, ◌+◌, ◌-◌, ◌∙◌, ℕ, Bool, true, List, Option, IfSome, length, set, ap, sym, subst, arith}
 use Rattle.std.proofs.lemmas.List.{take_at}
-use Rattle.ft_retire.specs.Births.{BirthsState, IsCounted}
+use Rattle.ft_retire.specs.Births.{BirthsState, HasCounts}
 use Rattle.ft_retire.specs.Marks.{unmarked_in, looked_at, IsLeastUnmarked}
 use Rattle.ft_retire.proofs.Counting.{counted_full, counted_given}
 use Rattle.ft_retire.proofs.Marking.{some_unmarked}
@@ -27,10 +27,10 @@ invariant_of-self-2 c =
     ∙ ap (looked_at c.deref.result.now) c.in-Some.is in
     let set_one : c.mark.new.marks ≡ set c.self.inside.marks.items c.in-Some.segment true = search rules in
     let count : unmarked_in c.mark.new.marks + c.mark.result ≡ unmarked_in c.self.inside.marks.items = search rules in
-    subst (λ (ms : List Bool). IsCounted (set c.self.inside.lives.items c.in-Some.segment c.from_version.result) ms
+    subst (λ (ms : List Bool). HasCounts (set c.self.inside.lives.items c.in-Some.segment c.from_version.result) ms
     (c.self.inside.free - c.mark.result) (c.self.inside.looked + c.first_unmarked-found.result.1))
     (sym (take_at c.mark.new.marks _ c.self.inside.marks.len many))
-    (subst (λ (n : ℕ). IsCounted (set c.self.inside.lives.items c.in-Some.segment c.from_version.result) c.mark.new.marks
+    (subst (λ (n : ℕ). HasCounts (set c.self.inside.lives.items c.in-Some.segment c.from_version.result) c.mark.new.marks
     (c.self.inside.free - c.mark.result) n) (sym looked)
     (counted_given c.self.inside.lives.items c.self.inside.marks.items c.mark.new.marks c.self.inside.free
     c.self.inside.looked c.in-Some.segment c.mark.result c.from_version.result c.self.invariant least set_one

@@ -14,7 +14,7 @@ use Rattle.ft_shared.specs.Account.{account_of, slot_at, no_slot, after_clear, a
 use Rattle.ft_shared.specs.Plays.{IsPublish}
 use Rattle.ft_shared.specs.Register.{RegisterRule}
 use Rattle.ft_shared.proofs.Publish.{clears, publishes, a_free_slot, slots_published, seat_published, seated}
-use Rattle.ft_shared.specs.Pass.{AreKept}
+use Rattle.ft_shared.specs.Pass.{ArePassesKept}
 use Rattle.ft_shared.proofs.shared.Shared.publish.Goals as goal
 
 no : true ≡ false → ⊥
@@ -131,7 +131,7 @@ invariant_of-pass c =
       deep = length-set _ _ _ ∙ (length-set _ _ _ ∙ c.pass.invariant.deep);
       many = (ap (λ (z : Account). length z.settled) e ∙ c.pass.invariant.many.0, c.pass.invariant.many.1);
       room = c.pass.invariant.room;
-      settled = subst (λ (z : Account). AreKept z.sizes w.settled z.settled) (sym e) c.pass.invariant.settled;
+      settled = subst (λ (z : Account). ArePassesKept z.sizes w.settled z.settled) (sym e) c.pass.invariant.settled;
       whole = λ met. absurd (no (sym met.0 ∙ ap (λ (z : Account). z.begun) e));
     }
 

@@ -4,7 +4,7 @@ use Rattle.ft_types.specs.Views.{Owned}
 use Rattle.ft_types.specs.ModuleViews.{owned_in, shown_of}
 use Rattle.ft_types.proofs.module_view.ModuleView.new.Goals as goal
 
--- nothing is kept for so many channels
+-- nothing is kept for that many channels
 owned_none : (version n : ℕ) → map (owned_in version) (replicate n None) ≡ replicate n None
 owned_none version zero = refl
 owned_none version (suc n) = ap (λ (l : List (Option Owned)). None ∷ l) (owned_none version n)

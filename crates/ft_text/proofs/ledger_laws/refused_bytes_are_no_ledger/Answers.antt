@@ -1,15 +1,15 @@
 -- the ledger of an account would be read
 use Rattle.std.proofs.Common.{◌≡◌, ◌≢◌, ℕ, List, Ok, Err, Result, sym, ap, ◌∙◌}
-use Rattle.ft_text.specs.Record.{Account}
+use Rattle.ft_text.specs.Record.{LedgerAccount}
 use Rattle.ft_text.specs.LedgerReading.{ledger_of}
 use Rattle.ft_text.proofs.LedgerWhole.{whole_back, in_form_2, in_form_1}
 use Rattle.ft_text.proofs.Settled.{wrong_line_settles}
 use Rattle.ft_text.proofs.LinesGoOn.{lines_go_on}
-use Rattle.ft_text.proofs.ledger_laws.what_is_refused_is_none.Goals as goal
+use Rattle.ft_text.proofs.ledger_laws.refused_bytes_are_no_ledger.Goals as goal
 
-not_read : (text bytes : List ℕ) (line : ℕ) (a : Account) → ledger_of bytes ≡ Err line → ledger_of text ≡ Ok a → text ≢ bytes
+not_read : (text bytes : List ℕ) (line : ℕ) (a : LedgerAccount) → ledger_of bytes ≡ Err line → ledger_of text ≡ Ok a → text ≢ bytes
 not_read text bytes line a wrong read same =
-    let both : ◌≡◌ {A = Result Account ℕ} (Ok a) (Err line) = sym read ∙ ap ledger_of same ∙ wrong in
+    let both : ◌≡◌ {A = Result LedgerAccount ℕ} (Ok a) (Err line) = sym read ∙ ap ledger_of same ∙ wrong in
     absurd (cc)
 
 pub returns-clause-settled : goal.returns-clause-settled

@@ -1,5 +1,5 @@
 use Rattle.ft_shared.proofs.Found.{take_adds, pin_adds}
-use Rattle.ft_shared.proofs.laws.a_take_or_a_pin_adds_nothing_unfound.Goals as goal
+use Rattle.ft_shared.proofs.laws.a_take_or_a_pin_adds_found_segments_alone.Goals as goal
 
 pub returns-clause-take : goal.returns-clause-take
 returns-clause-take c = take_adds

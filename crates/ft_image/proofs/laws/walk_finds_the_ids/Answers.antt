@@ -1,5 +1,5 @@
 use Rattle.ft_image.proofs.Walks.{walks}
-use Rattle.ft_image.proofs.laws.walk_is_there.Goals as goal
+use Rattle.ft_image.proofs.laws.walk_finds_the_ids.Goals as goal
 
 pub returns : goal.returns
 returns c = walks

@@ -1,5 +1,5 @@
 use Rattle.ft_edits.proofs.Allowed.{allowed}
-use Rattle.ft_edits.proofs.laws.allowed_is_there.Goals as goal
+use Rattle.ft_edits.proofs.laws.allowed_edits_name_what_is_there.Goals as goal
 
 pub returns : goal.returns
 returns c = allowed

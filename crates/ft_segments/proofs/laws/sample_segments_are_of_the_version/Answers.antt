@@ -1,5 +1,5 @@
 use Rattle.ft_segments.proofs.Samples.{of_it}
-use Rattle.ft_segments.proofs.laws.sample_is_of_it.Goals as goal
+use Rattle.ft_segments.proofs.laws.sample_segments_are_of_the_version.Goals as goal
 
 pub returns : goal.returns
 returns c = of_it

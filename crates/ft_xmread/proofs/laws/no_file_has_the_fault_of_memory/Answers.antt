@@ -1,5 +1,5 @@
 use Rattle.ft_xmread.proofs.FileLaws.{has_memory}
-use Rattle.ft_xmread.proofs.laws.memory_is_no_fault.Goals as goal
+use Rattle.ft_xmread.proofs.laws.no_file_has_the_fault_of_memory.Goals as goal
 
 pub returns : goal.returns
 returns c = has_memory

@@ -4,7 +4,7 @@ use Rattle.ft_types.specs.Edits.{IsGivable}
 use Rattle.ft_text.specs.ReadBack.{HasRanges}
 use Rattle.ft_text.proofs.EditsInRange.{lines_are_in_range}
 use Rattle.ft_text.proofs.LinesBack.{edits_are_read_back, batches_are_read_back}
-use Rattle.ft_text.proofs.laws.what_is_read_is_in_range.Goals as goal
+use Rattle.ft_text.proofs.laws.read_edits_are_in_range.Goals as goal
 
 pub returns-clause-ranges : goal.returns-clause-ranges
 returns-clause-ranges c = lines_are_in_range
