@@ -1,15 +1,13 @@
 -- What may be filled stays so while segments are filled.
-use Rattle.std.proofs.Common.{◌≡◌, ◌≢◌, ◌⊎◌, inl, inr, ℕ, ◌+◌, ◌*◌, ◌<◌, ◌≤◌, List, set, length, Some, refl, sym, ap, subst, ◌∙◌, arith, get_or-set_other, length-set, eq-eqb, cond, Bool}
-use Rattle.ft_segments.specs.Packing.{word_at, digit}
+use Rattle.std.proofs.Common.{◌≡◌, ◌≢◌, inl, inr, ℕ, ◌+◌, ◌*◌, ◌<◌, ◌≤◌, List, set, Some, refl, sym, ap, subst, ◌∙◌, arith, get_or-set_other, length-set, eq-eqb, cond, Bool}
+use Rattle.ft_segments.specs.Packing.{digit}
 use Rattle.ft_segments.specs.Laws.{SampleStays}
-use Rattle.ft_segments.specs.Walk.{Placed, IsOf, SameWords, frames_in, is_it, sample_uses, sample_walk}
+use Rattle.ft_segments.specs.Walk.{Placed, SameWords, frames_in, is_it, sample_uses, sample_walk}
 use Rattle.ft_shared.specs.declared.law.Account.{Account}
-use Rattle.ft_shared.specs.declared.law.WordStep.{WordStep}
-use Rattle.ft_shared.specs.Account.{Found, MayFill, IsPinAnswer, after_fill, after_read}
+use Rattle.ft_shared.specs.Account.{Found, IsPinAnswer, after_fill}
 use Rattle.ft_shared.specs.Pass.{WriterState}
-use Rattle.ft_image.specs.Passes.{StandsWritten, HasMadeSteps}
+use Rattle.ft_image.specs.Passes.{HasMadeSteps}
 use Rattle.ft_image.specs.Drafts.{AreShortPins, IsFillable, MayShowDrafted, HasFilled}
-use Rattle.ft_image.proofs.Agreed.{filled-stands}
 
 -- a sample's root names itself
 root-named : (pool : List ℕ) (root : ℕ) → 1 ≤ sample_uses root (sample_walk pool root)
@@ -23,11 +21,8 @@ others-stay pool seg at w s low ne place lt =
     let apart : s * 256 + place ≢ seg * 256 + at = λ e. ne (omega arith) in
     get_or-set_other pool (seg * 256 + at) (s * 256 + place) w 0 apart
 
--- what the scan found stays found, and nothing else is, where a segment is filled that it didn't find
+-- nothing else is found where a segment is filled that the scan didn't find
 module _ (stays : SampleStays) (a : Account) (seg at w : ℕ) (low : at < 256) (apart : Found a seg → ⊥) (short : AreShortPins a) where
-  pool' : List ℕ
-  pool' = (after_fill a seg at w).pool
-
   walk-stays : (reader channel root : ℕ) → IsPinAnswer a reader channel (Some root)
       → sample_walk (after_fill a seg at w).pool root ≡ sample_walk a.pool root
   walk-stays reader channel root answer = stays a.pool (after_fill a seg at w).pool root (short reader channel root answer)
@@ -50,23 +45,9 @@ module _ (stays : SampleStays) (a : Account) (seg at w : ℕ) (low : at < 256) (
     subst (λ ids. 1 ≤ sample_uses s ids) (walk-stays reader channel root answer) named,
   ))
 
-  found-after : (s : ℕ) → Found a s → Found (after_fill a seg at w) s
-  found-after s (inl now) = inl now
-  found-after s (inr (inl answered)) = inr (inl answered)
-  found-after s (inr (inr (reader, channel, root, answer, named))) = inr (inr (
-    reader,
-    channel,
-    root,
-    answer,
-    subst (λ ids. 1 ≤ sample_uses s ids) (sym (walk-stays reader channel root answer)) named,
-  ))
-
   short-after : AreShortPins (after_fill a seg at w)
   short-after reader channel root answer =
       let e = frames-stay reader channel root answer in let l = short reader channel root answer in omega arith
-
-  short-before : AreShortPins (after_fill a seg at w) → AreShortPins a
-  short-before after = short
 
 pub fillable-after : SampleStays → (pass : WriterState) (seg at w : ℕ) → at < 256 → IsFillable pass seg → (s : ℕ) → IsFillable pass s
     → IsFillable (record pass { account = after_fill pass.account seg at w }) s

@@ -1,4 +1,4 @@
-use Rattle.std.proofs.Common.{◌≡◌, ◌∙◌, refl, arith}
+use Rattle.std.proofs.Common.{◌∙◌, refl, arith}
 use Rattle.ft_image.proofs.DraftFills.{fills_nothing, fills_through, steps_fill, steps_words, steps_may}
 use Rattle.ft_image.proofs.draft_words.DraftWordsFill.fill_law.Goals as goal
 
