@@ -8,10 +8,10 @@ ghost use Rattle.ft_edits.specs.Apply.{apply};
 ghost use Rattle.ft_edits.specs.Edited.{edited};
 ghost use Rattle.ft_check.specs.Applied.{IsCause};
 
-use crate::instrument::change_instruments;
-use crate::pattern::change_patterns;
-use crate::sample::{change_all_frames, change_samples};
-use crate::song::change_song;
+use crate::instrument::do_instrument_edit;
+use crate::pattern::do_pattern_edit;
+use crate::sample::{do_frame_edit, do_sample_edit};
+use crate::song::do_song_edit;
 use ft_edits::{
     Group, allowed_edits_name_what_is_there, fault_of_module, group_of, holds_fields,
     valid_stays_valid,
@@ -40,11 +40,11 @@ fn do_edit(alloc: Global, m: &mut Module, e: &Edit) -> Result<(), NoMemory>
     ensures err { OnErr result (m.new ≡ m.old) }
 {
     match group_of(e) {
-        Group::Patterns => change_patterns(alloc, m, e),
-        Group::Song => change_song(alloc, m, e),
-        Group::Instruments => change_instruments(alloc, m, e),
-        Group::Samples => change_samples(alloc, m, e),
-        Group::Frames => change_all_frames(alloc, m, e),
+        Group::Patterns => do_pattern_edit(alloc, m, e),
+        Group::Song => do_song_edit(alloc, m, e),
+        Group::Instruments => do_instrument_edit(alloc, m, e),
+        Group::Samples => do_sample_edit(alloc, m, e),
+        Group::Frames => do_frame_edit(alloc, m, e),
     }
 }
 

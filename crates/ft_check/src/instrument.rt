@@ -163,7 +163,7 @@ pub(crate) fn change_instrument(
 }
 
 /// Does an edit of an instrument.
-pub(crate) fn change_instruments(alloc: Global, m: &mut Module, e: &Edit) -> Result<(), NoMemory>
+pub(crate) fn do_instrument_edit(alloc: Global, m: &mut Module, e: &Edit) -> Result<(), NoMemory>
     requires group { group_of e.now ≡ Group.Instruments }
     requires valid { IsValid m.old }
     requires there { Allows m.old e.now }

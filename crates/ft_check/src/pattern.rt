@@ -147,7 +147,7 @@ fn change_pattern(alloc: Global, m: &mut Module, p: u8, e: &Edit) -> Result<(), 
 }
 
 /// Does an edit of a pattern.
-pub(crate) fn change_patterns(alloc: Global, m: &mut Module, e: &Edit) -> Result<(), NoMemory>
+pub(crate) fn do_pattern_edit(alloc: Global, m: &mut Module, e: &Edit) -> Result<(), NoMemory>
     requires group { group_of e.now ≡ Group.Patterns }
     requires valid { IsValid m.old }
     requires there { Allows m.old e.now }

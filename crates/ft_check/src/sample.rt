@@ -149,7 +149,7 @@ fn change_sample(alloc: Global, m: &mut Module, i: u8, s: u8, e: &Edit) -> Resul
 }
 
 /// Does an edit of samples.
-pub(crate) fn change_samples(alloc: Global, m: &mut Module, e: &Edit) -> Result<(), NoMemory>
+pub(crate) fn do_sample_edit(alloc: Global, m: &mut Module, e: &Edit) -> Result<(), NoMemory>
     requires group { group_of e.now ≡ Group.Samples }
     requires valid { IsValid m.old }
     requires there { Allows m.old e.now }
@@ -166,7 +166,7 @@ pub(crate) fn change_samples(alloc: Global, m: &mut Module, e: &Edit) -> Result<
 }
 
 /// Does an edit of the frames of a sample.
-pub(crate) fn change_all_frames(alloc: Global, m: &mut Module, e: &Edit) -> Result<(), NoMemory>
+pub(crate) fn do_frame_edit(alloc: Global, m: &mut Module, e: &Edit) -> Result<(), NoMemory>
     requires group { group_of e.now ≡ Group.Frames }
     requires valid { IsValid m.old }
     requires there { Allows m.old e.now }

@@ -57,7 +57,7 @@ fn remove_last(patterns: &mut Patterns)
 
 /// Does an edit of the song as a whole.
 #[inline(never)]
-pub(crate) fn change_song(alloc: Global, m: &mut Module, e: &Edit) -> Result<(), NoMemory>
+pub(crate) fn do_song_edit(alloc: Global, m: &mut Module, e: &Edit) -> Result<(), NoMemory>
     requires group { group_of e.now ≡ Group.Song }
     requires there { Allows m.old e.now }
     ensures ok { OnOk result (m.new ≡ edited m.old e.now) }

@@ -5,16 +5,12 @@
 #[cfg(test)]
 mod faults;
 #[cfg(test)]
-mod frames;
-#[cfg(test)]
 mod kinds;
 #[cfg(test)]
 mod limits;
 #[cfg(test)]
 mod lines;
 #[cfg(test)]
-mod orders;
-#[cfg(test)]
-mod patterns;
-#[cfg(test)]
 mod song;
+#[cfg(test)]
+mod steps;

@@ -6,7 +6,7 @@ use ft_types::{EditFault, Module, valid};
 use std::alloc::Global;
 
 /// What became of a line.
-#[derive(Clone, Copy, Debug, PartialEq, Eq)]
+#[derive(Clone, Copy, PartialEq, Eq)]
 pub enum Answer {
     /// It is no edit, or the song isn't valid, or memory ran out.
     None,

@@ -1,11 +1,7 @@
-//! The song that is edited, and what an edit answers.
+//! The song that is edited.
 
-ghost use Rattle.ft_types.specs.Edits.{IsGivable};
-
-use ft_check::{ApplyFault, apply_edit};
 use ft_types::{
-    Cell, Edit, EditFault, Envelope, Frames, Instrument, Items, Module, Pattern, Point, Sample,
-    Vibrato, valid,
+    Cell, Envelope, Frames, Instrument, Items, Module, Pattern, Point, Sample, Vibrato,
 };
 use std::alloc::{AllocError, Global};
 
@@ -79,73 +75,4 @@ pub fn song(alloc: Global) -> Result<Module, AllocError> {
         patterns: Items::from_vec(vec![in alloc; pattern]?),
         instruments: Items::from_vec(vec![in alloc; instrument(alloc)?]?),
     })
-}
-
-/// Whether an edit of the song is done.
-pub fn done(alloc: Global, m: &mut Module, e: &Edit) -> bool
-    requires { IsGivable e.now }
-{
-    if !valid(m) {
-        return false;
-    }
-    apply_edit(alloc, m, e) == Ok(())
-}
-
-/// Whether an edit of the song is refused so.
-pub fn refused(alloc: Global, m: &mut Module, e: &Edit, fault: EditFault) -> bool
-    requires { IsGivable e.now }
-{
-    if !valid(m) {
-        return false;
-    }
-    apply_edit(alloc, m, e) == Err(ApplyFault::Edit(fault))
-}
-
-/// Whether an edit of the song is done, and its sample has these frames then.
-pub fn makes(alloc: Global, m: &mut Module, e: &Edit, frames: &[i16]) -> bool
-    requires { IsGivable e.now }
-{
-    done(alloc, m, e) && has_frames(m, frames)
-}
-
-/// Whether an edit of the song is done, and a cell has this note then.
-pub fn puts(alloc: Global, m: &mut Module, e: &Edit, place: usize, note: u8) -> bool
-    requires { IsGivable e.now }
-{
-    done(alloc, m, e) && has_note(m, place, note)
-}
-
-/// Whether a cell has this note.
-pub fn has_note(m: &Module, place: usize, note: u8) -> bool {
-    let Some(pattern) = m.patterns.get(0) else {
-        return false;
-    };
-    match pattern.cells.get(place) {
-        Some(cell) => cell.note == note,
-        None => false,
-    }
-}
-
-/// Whether the sample has these frames.
-pub fn has_frames(m: &Module, frames: &[i16]) -> bool {
-    let Some(instrument) = m.instruments.get(0) else {
-        return false;
-    };
-    match instrument.samples.get(0) {
-        Some(sample) => sample.frames.as_slice() == frames,
-        None => false,
-    }
-}
-
-/// Whether the sample turns so.
-pub fn turns(m: &Module, kind: u8, start: u32, len: u32) -> bool {
-    let Some(instrument) = m.instruments.get(0) else {
-        return false;
-    };
-    match instrument.samples.get(0) {
-        Some(sample) => {
-            sample.loop_kind == kind && sample.loop_start == start && sample.loop_len == len
-        }
-        None => false,
-    }
 }

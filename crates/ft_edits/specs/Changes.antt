@@ -1,4 +1,4 @@
--- What an edit makes of the one pattern, instrument or sample that it names; edits of others leave it.
+-- What an edit makes of the one pattern, instrument or sample that it names. Other edits leave it.
 use Rattle.std.specs.Prelude.{ℕ}
 use Rattle.ft_types.specs.declared.module.Module.{Module}
 use Rattle.ft_types.specs.declared.pattern.Pattern.{Pattern}

@@ -19,7 +19,7 @@ use crate::sizes::{SampleSizes, SizeView, SongSizes};
 use ft_types::{Edit, EditFault};
 
 /// The first fault of a block, `h` rows of `w` channels from row `r` and channel `c`, in a pattern
-/// of that many rows.
+/// of this many rows.
 fn block_fault(song: SongSizes, rows: u16, p: u8, r: u16, c: u8, h: u16, w: u8) -> Option<EditFault>
     ensures { (m : Module) → song ≡ song_sizes m → rows ≡ rows_at m p
         → result ≡ first_cause (block_of m p r c h w) }
@@ -33,7 +33,7 @@ fn block_fault(song: SongSizes, rows: u16, p: u8, r: u16, c: u8, h: u16, w: u8) 
 }
 
 /// The first fault of an edit of a pattern.
-fn pattern_fault<S: SizeView>(view: &mut S, song: SongSizes, e: &Edit) -> Option<EditFault>
+fn pattern_edit_fault<S: SizeView>(view: &mut S, song: SongSizes, e: &Edit) -> Option<EditFault>
     requires group { group_of e.now ≡ Group.Patterns }
     ensures narrows { (m : Module) → S.may_show view.new m → S.may_show view.old m }
     ensures answer { (m : Module) → S.may_show view.new m → song ≡ song_sizes m
@@ -73,7 +73,7 @@ fn pattern_fault<S: SizeView>(view: &mut S, song: SongSizes, e: &Edit) -> Option
 }
 
 /// The first fault of an edit of the song as a whole.
-fn song_fault(song: SongSizes, e: &Edit) -> Option<EditFault>
+fn song_edit_fault(song: SongSizes, e: &Edit) -> Option<EditFault>
     requires group { group_of e.now ≡ Group.Song }
     ensures answer { (m : Module) → song ≡ song_sizes m → result ≡ fault_of m e.now }
 {
@@ -116,7 +116,7 @@ fn head_fault(w: u8, count: u8, sus: u8, ls: u8, le: u8, flags: u8) -> Option<Ed
 }
 
 /// The first fault of an edit of an instrument.
-fn instrument_fault<S: SizeView>(view: &mut S, song: SongSizes, e: &Edit) -> Option<EditFault>
+fn instrument_edit_fault<S: SizeView>(view: &mut S, song: SongSizes, e: &Edit) -> Option<EditFault>
     requires group { group_of e.now ≡ Group.Instruments }
     ensures narrows { (m : Module) → S.may_show view.new m → S.may_show view.old m }
     ensures answer { (m : Module) → S.may_show view.new m → song ≡ song_sizes m
@@ -265,9 +265,9 @@ pub fn fault_of<S: SizeView>(view: &mut S, e: &Edit) -> Option<EditFault>
 {
     let song = view.song();
     match group_of(e) {
-        Group::Patterns => pattern_fault(view, song, e),
-        Group::Song => song_fault(song, e),
-        Group::Instruments => instrument_fault(view, song, e),
+        Group::Patterns => pattern_edit_fault(view, song, e),
+        Group::Song => song_edit_fault(song, e),
+        Group::Instruments => instrument_edit_fault(view, song, e),
         Group::Samples => sample_edit_fault(view, song, e),
         Group::Frames => frame_edit_fault(view, song, e),
     }

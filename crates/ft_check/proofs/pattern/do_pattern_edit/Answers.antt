@@ -3,7 +3,7 @@ use Rattle.ft_types.specs.declared.edit.Edit.{Edit}
 use Rattle.ft_edits.specs.Changes.{cell_changed}
 use Rattle.ft_edits.specs.Edited.{edited}
 use Rattle.ft_edits.specs.Patterns.{with_pattern, with_block}
-use Rattle.ft_check.proofs.pattern.change_patterns.Goals as goal
+use Rattle.ft_check.proofs.pattern.do_pattern_edit.Goals as goal
 
 pub returns-in-Clear-clause-ok : goal.returns-in-Clear-clause-ok
 returns-in-Clear-clause-ok c =
