@@ -10,7 +10,6 @@ use Rattle.ft_shared.specs.Pass.{ReaderState}
 use Rattle.ft_image.specs.Shown.{Shows}
 use Rattle.ft_image.specs.Read.{MayShowAll, MayShowSample, IsRootOf, mapped_sample, sample_at, sample_root_at}
 use Rattle.ft_image.specs.Passes.{MayShowHeld, HasReadOn}
-use Rattle.ft_image.specs.PassLaws.{reads_through}
 use Rattle.ft_player.specs.declared.songs.Songs.{Songs}
 use Rattle.ft_player.specs.Songs.{song_at, place_at}
 use Rattle.ft_player.specs.Behind.{Holds, AreSongsBehind}
@@ -41,14 +40,14 @@ Heads pass found head =
 
 pub begun_read : (songs : Songs) (old mid new : ReaderState) (version root instrument note found : ℕ) (head : SampleHead)
     (answer : Option ℕ)
-    → HasReadOn old mid → HasReadOn mid new → Holds old version root → AreSongsBehind songs new → answer ≡ Some found
+    → HasReadOn old new → Holds old version root → AreSongsBehind songs new → answer ≡ Some found
     → Answers mid root instrument note answer → IsMissed mid root instrument note answer
     → ((p : Placed) (s : ℕ) → MayShowHeld new p s → MayShowHeld mid p s) → Heads new found head
     → Begun songs new version root instrument note found head
-begun_read songs old mid new version root instrument note found head answer first then holds stands is answered missed narrows headed =
+begun_read songs old mid new version root instrument note found head answer on holds stands is answered missed narrows headed =
     let place = place_at songs version in
     let song = song_at songs version in
-    let h = held_song songs old new version root (reads_through old mid new first then) holds stands in
+    let h = held_song songs old new version root on holds stands in
     let before : MayShowAll MayShowHeld mid place = λ s of. narrows place s (h.may s of) in record {
       song = h;
       read = read_of songs version instrument note found head answer is (answered place song before h.shows h.rooted)

@@ -3,7 +3,7 @@ use Rattle.std.proofs.Common.{◌≡◌, ◌≢◌, ℕ, ◌<◌, ◌≤◌, ◌
 use Rattle.std.proofs.lemmas.Bool.{eqb-true}
 use Rattle.ft_types.specs.Work.{word_of, body_of, asked, asked_all, last_word, frame_cost, run_cost}
 use Rattle.ft_shared.specs.Pass.{ReaderState}
-use Rattle.ft_image.specs.PassLaws.{reads_through, counted_through}
+use Rattle.ft_image.specs.Passes.{AreCounted, HasReadOn}
 use Rattle.ft_player.specs.declared.seat.KeptWord.{KeptWord}
 use Rattle.ft_player.specs.declared.seat.KeptWords.{KeptWords}
 use Rattle.ft_player.specs.declared.seat.Seat.{Seat}
@@ -88,8 +88,10 @@ pub asked_more : (first many : ℕ) (old mid new : ReaderState) (seat seat_mid :
     → ((songs : Songs) → AreSongsBehind songs new → IsSeatOf songs seat → IsSeatOf songs (record seat_mid { words = words }))
     → numbers_of words ≡ last_word first many ∷ (last_word first many - 1) ∷ []
     → HasFollowed (word_of first) (last_word first many) mid new steps_mid steps_new
+    → HasReadOn old new → AreCounted old new steps steps_new
     → HasAskedAll first many old new seat (record seat_mid { words = words }) steps steps_new
-asked_more first many old mid new seat seat_mid words steps steps_mid steps_new some behind has seated numbers followed =
+asked_more first many old mid new seat seat_mid words steps steps_mid steps_new some behind has seated numbers followed
+on counted =
     let from = word_of first in
     let to = last_word first many in
     let ne : to ≢ from = omega (arith, some, behind) in record {
@@ -97,8 +99,8 @@ asked_more first many old mid new seat seat_mid words steps steps_mid steps_new 
       rest = ap (λ (s : Seat). record s { words = words }) has.rest;
       words = numbers ∙ sym (asked_other from to (numbers_of seat.words) ne);
       run = record {
-        on = reads_through old mid new has.on followed.on;
-        counted = counted_through old mid new steps steps_mid steps_new has.counted followed.counted;
+        on = on;
+        counted = counted;
         work = (
           omega (arith, has.work.0, followed.work.0),
           bounded many (to - from) (body_of to - body_of from) steps steps_mid steps_new some (few_words first many some)

@@ -11,7 +11,7 @@ use Rattle.ft_shared.specs.declared.law.PlacedVersion.{PlacedVersion}
 use Rattle.ft_shared.specs.declared.law.TakenVersion.{TakenVersion}
 use Rattle.ft_shared.specs.History.{placed_at}
 use Rattle.ft_shared.specs.Pass.{RegisterId, ReaderState}
-use Rattle.ft_image.specs.Passes.{HasReadOn}
+use Rattle.ft_image.specs.Passes.{AreCounted, HasReadOn}
 use Rattle.ft_player.specs.declared.seat.Seat.{Seat}
 use Rattle.ft_player.specs.declared.songs.SongVersion.{SongVersion}
 use Rattle.ft_player.specs.declared.songs.Songs.{Songs}
@@ -161,6 +161,10 @@ plays_nothing pass = record {
     };
   };
 }
+
+pub counted_through : (a b c : ReaderState) (x y z : ℕ) → AreCounted a b x y → AreCounted b c y z
+    → AreCounted a c x z
+counted_through a b c x y z e f = omega arith
 
 pub plays_through : (a b c : ReaderState) → HasPlayedOn a b → HasPlayedOn b c → HasPlayedOn a c
 plays_through a b c e f = record {

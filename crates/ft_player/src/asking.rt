@@ -22,8 +22,8 @@ use crate::ranges::ranged_frame;
 use crate::seat::{KeptWord, Seat};
 use arrayvec::ArrayVec;
 use ft_image::{
-    PinnedWords, a_pinned_sample_may_be_shown, a_shown_sample_is_of_its_version, body_of_frame,
-    frame_in, frame_word,
+    PinnedWords, a_pass_reads_on, a_pinned_sample_may_be_shown, a_shown_sample_is_of_its_version,
+    body_of_frame, frame_in, frame_word,
 };
 use ft_shared::{ReaderPass, Shared};
 use ft_types::Steps;
@@ -84,6 +84,7 @@ fn body_for<L: Ledger>(
         → steps.new ≡ steps.old }
     ensures work { (steps.old ≤ steps.new) × (steps.new ≤ steps.old + 2) }
 {
+    a_pass_reads_on();
     if let Some(kept) = seat.words.near(place / 4) {
         return kept.body;
     }
@@ -154,6 +155,7 @@ fn other_word<L: Ledger>(
     ensures cost { steps.new ≤ steps.old
         + work_of.frame_cost (work_of.word_of place) (numbers_of seat.now.words) }
 {
+    a_pass_reads_on();
     songs_agree_with_earlier_notes();
     if let Some(kept) = seat.words.older_of(place / 4) {
         return kept;
@@ -203,6 +205,7 @@ pub fn word_for<L: Ledger>(
         → result ≡ frames_word (frames_by songs seat.old) (work_of.word_of place) }
     ensures asked { HasAsked place pass.old pass.new seat.old seat.new steps.old steps.new }
 {
+    a_pass_reads_on();
     if let Some(newest) = &seat.words.newest
         && newest.number == place / 4
     {

@@ -20,7 +20,7 @@ use crate::laws::songs_agree_with_earlier_notes;
 use crate::ranges::ranged_frame;
 use crate::seat::{KeptWord, KeptWords, Seat};
 use arrayvec::ArrayVec;
-use ft_image::{a_shown_sample_is_of_its_version, frame_in};
+use ft_image::{a_pass_reads_on, a_shown_sample_is_of_its_version, frame_in};
 use ft_shared::{ReaderPass, Shared};
 use ft_types::Steps;
 use std::sync::ledger::Ledger;
@@ -119,6 +119,7 @@ fn next_body<L: Ledger>(
     ensures work { (steps.old ≤ steps.new) × (steps.new ≤ steps.old
         + 2 * (work_of.body_of (word.number + 1) - work_of.body_of word.number)) }
 {
+    a_pass_reads_on();
     let number = word.number + 1;
     if number % 256 != 0 {
         return word.body;
@@ -180,6 +181,7 @@ fn follow_whole<L: Ledger>(
     ensures followed { HasFollowed from.number result.newest.number pass.old pass.new
         steps.old steps.new }
 {
+    a_pass_reads_on();
     songs_agree_with_earlier_notes();
     a_shown_sample_is_of_its_version();
     let wide = seat.head.wide;
@@ -275,6 +277,7 @@ fn run_seat<L: Ledger>(
     ensures asked { HasAskedAll first (length out.old) pass.old pass.new seat.old seat.new
         steps.old steps.new }
 {
+    a_pass_reads_on();
     songs_agree_with_earlier_notes();
     a_shown_sample_is_of_its_version();
     let head = seat.head;

@@ -13,7 +13,9 @@ ghost use Rattle.ft_player.specs.Behind.{Holds, AreSongsBehind, HasPlayedOn};
 use crate::ranges::can_sound;
 use crate::seat::{KeptWords, Seat};
 use arrayvec::ArrayVec;
-use ft_image::{PassWords, a_shown_sample_is_of_its_version, sample_head, sample_root};
+use ft_image::{
+    PassWords, a_pass_reads_on, a_shown_sample_is_of_its_version, sample_head, sample_root,
+};
 use ft_shared::{ReaderPass, Shared};
 use ft_types::{SampleHead, Steps};
 use std::sync::ledger::Ledger;
@@ -43,6 +45,7 @@ pub fn begun_seat<L: Ledger>(
     ensures counted { AreCounted pass.old pass.new steps.old steps.new }
     ensures work { (steps.old ≤ steps.new) × (steps.new ≤ steps.old + 8) }
 {
+    a_pass_reads_on();
     a_shown_sample_is_of_its_version();
     let mut words = PassWords {
         shared,

@@ -3,7 +3,6 @@
 ghost use Rattle.std.specs.Prelude.{◌≡◌, Some, None, length, get_or, is_some, map, refl};
 ghost use Rattle.std.proofs.Common.{◌∙◌};
 ghost use Rattle.ft_image.specs.Passes.{AreCounted};
-ghost use Rattle.ft_image.specs.PassLaws.{counted_through};
 ghost use Rattle.ft_player.specs.Seats.{head_in, pin_in, seat_words};
 ghost use Rattle.ft_player.specs.BehindLaws as laws;
 ghost use Rattle.ft_player.specs.Behind.{Holds, AreSongsBehind, AreSeated, shown_by, HasPlayedOn};
@@ -86,7 +85,7 @@ impl<'a, 'b, 'c, 'd, L: Ledger> SongView for PlayerView<'a, 'b, 'c, 'd, L> {
       e.4 ∙ f.4,
       e.5 ∙ f.5,
       laws.plays_through u.pass.now v.pass.now w.pass.now e.6 f.6,
-      counted_through u.pass.now v.pass.now w.pass.now
+      laws.counted_through u.pass.now v.pass.now w.pass.now
           u.steps.now v.steps.now w.steps.now e.7 f.7,
     ) };
 

@@ -1,13 +1,12 @@
 use Rattle.std.proofs.Common.{rules}
 use Rattle.ft_types.specs.Work.{word_of}
-use Rattle.ft_image.specs.PassLaws.{reads_nothing}
 use Rattle.ft_player.specs.Seats.{numbers_of}
 use Rattle.ft_player.specs.BehindLaws.{played_read}
 use Rattle.ft_player.proofs.Seated.{costs}
 use Rattle.ft_player.proofs.asking.other_word.Goals as goal
 
 pub returns-in-Some-clause-on : goal.returns-in-Some-clause-on
-returns-in-Some-clause-on g c = reads_nothing c.args.pass.now
+returns-in-Some-clause-on g c = c.a_pass_reads_on.ensures.nothing c.args.pass.now
 
 pub returns-clause-word : goal.returns-clause-word
 returns-clause-word g c = λ songs stands seated.

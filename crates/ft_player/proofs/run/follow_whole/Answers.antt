@@ -2,7 +2,6 @@ use Rattle.std.proofs.Common.{rules, refl, ◌≡◌, ◌<◌, ◌+◌, ◌*◌,
 use Rattle.std.specs.Prelude.{FitsSigned}
 use Rattle.ft_types.specs.Valid.{width_of}
 use Rattle.ft_types.specs.Views.{frame_of}
-use Rattle.ft_image.specs.PassLaws.{reads_nothing, reads_through, counted_through}
 use Rattle.ft_player.specs.Seats.{owned_by}
 use Rattle.ft_player.specs.BehindLaws.{played_read}
 use Rattle.ft_player.proofs.Unpacked.{four_more}
@@ -43,8 +42,8 @@ loop-k-preserved g c =
       many = c.unpack.ensures.many ∙ c.loop-k.invariant.many;
       number = omega arith;
       older = search rules;
-      on = reads_through a.pass.now mid new c.loop-k.invariant.on c.next_word-word.ensures.on;
-      counted = counted_through a.pass.now mid new a.steps.now c.loop-k.steps c.next_word-word.new.steps
+      on = c.a_pass_reads_on.ensures.through a.pass.now mid new c.loop-k.invariant.on c.next_word-word.ensures.on;
+      counted = c.a_pass_reads_on.ensures.counted a.pass.now mid new a.steps.now c.loop-k.steps c.next_word-word.new.steps
           c.loop-k.invariant.counted c.next_word-word.ensures.counted;
       work = omega arith;
     }
@@ -56,7 +55,7 @@ loop-k-init g c = record {
   many = refl;
   number = omega arith;
   older = λ some. absurd (omega (arith, some));
-  on = reads_nothing c.args.pass.now;
+  on = c.a_pass_reads_on.ensures.nothing c.args.pass.now;
   counted = search rules;
   work = omega arith;
 }

@@ -90,3 +90,6 @@ returns-clause-asked g c =
     (subst (λ (n : ℕ). HasFollowed n (last_word a.first many) mid new c.word_for-word.new.steps c.follow-words.new.steps) number
     (subst (λ (n : ℕ). HasFollowed from.number n mid new c.word_for-word.new.steps c.follow-words.new.steps) last
     c.follow-words.ensures.followed))
+    (c.a_pass_reads_on.ensures.through a.pass.now mid new asked.on c.follow-words.ensures.followed.on)
+    (c.a_pass_reads_on.ensures.counted a.pass.now mid new a.steps.now c.word_for-word.new.steps c.follow-words.new.steps
+    asked.counted c.follow-words.ensures.followed.counted)

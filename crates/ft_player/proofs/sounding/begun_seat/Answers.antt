@@ -2,7 +2,6 @@ use Rattle.std.proofs.Common.{rules, ◌≡◌, is_some, sym, ap, subst, ◌∙�
 use Rattle.std.proofs.lemmas.Option.{same_Some}
 use Rattle.ft_types.specs.Valid.{IsValidHead}
 use Rattle.ft_shared.specs.Pass.{RegisterId, ReaderState}
-use Rattle.ft_image.specs.PassLaws.{reads_through}
 use Rattle.ft_player.specs.Songs.{song_at, place_at}
 use Rattle.ft_player.specs.Seats.{IsSeatOf}
 use Rattle.ft_player.specs.Behind.{AreSongsBehind}
@@ -29,11 +28,12 @@ returns-then-found-segments-clause-begins g c = λ songs stands.
     let new = c.sample_head-head.new.view.pass.now in
     let now : AreSongsBehind songs new = search (rules, stands) in
     let b = begun_read songs a.pass.now mid new a.version a.root a.instrument a.note c.in-Some.found c.sample_head-head.result
-    c.sample_root.result c.sample_root.ensures.same.3 c.sample_head-head.ensures.same.3 c.requires.held now c.in-Some.is
+    c.sample_root.result (c.a_pass_reads_on.ensures.through a.pass.now mid new c.sample_root.ensures.same.3
+    c.sample_head-head.ensures.same.3) c.requires.held now c.in-Some.is
     c.sample_root.ensures.answer c.sample_root.ensures.missing c.sample_head-head.ensures.narrows c.sample_head-head.ensures.answer in
     let inside = b.song.among c.in-Some.found
     (c.a_shown_sample_is_of_its_version.ensures.segment place song c.in-Some.found b.read.sample b.song.shows b.read.of) in
-    let on = reads_through a.pass.now mid new c.sample_root.ensures.same.3 c.sample_head-head.ensures.same.3 in
+    let on = c.a_pass_reads_on.ensures.through a.pass.now mid new c.sample_root.ensures.same.3 c.sample_head-head.ensures.same.3 in
     let same : new.register.sizes.segments ≡ a.shared.now.sizes.segments
     = ap (λ (x : ReaderState). x.register.sizes.segments) on.is
     ∙ ap (λ (x : RegisterId). x.sizes.segments) c.requires.here in
@@ -50,7 +50,8 @@ returns-then-not-can_sound-clause-begins g c = λ songs stands.
     let new = c.sample_head-head.new.view.pass.now in
     let now : AreSongsBehind songs new = search (rules, stands) in
     let b = begun_read songs a.pass.now mid new a.version a.root a.instrument a.note c.in-Some.found c.sample_head-head.result
-    c.sample_root.result c.sample_root.ensures.same.3 c.sample_head-head.ensures.same.3 c.requires.held now c.in-Some.is
+    c.sample_root.result (c.a_pass_reads_on.ensures.through a.pass.now mid new c.sample_root.ensures.same.3
+    c.sample_head-head.ensures.same.3) c.requires.held now c.in-Some.is
     c.sample_root.ensures.answer c.sample_root.ensures.missing c.sample_head-head.ensures.narrows c.sample_head-head.ensures.answer in
     begins_unsound songs a.version a.instrument a.note c.in-Some.found c.sample_head-head.result b.read
     (λ x of. c.a_shown_sample_is_of_its_version.ensures.valid place song c.in-Some.found x b.song.shows of)
@@ -64,7 +65,8 @@ returns-clause-seated g c = λ songs seat stands e.
     let new = c.sample_head-head.new.view.pass.now in
     let now : AreSongsBehind songs new = search (rules, stands) in
     let b = begun_read songs a.pass.now mid new a.version a.root a.instrument a.note c.in-Some.found c.sample_head-head.result
-    c.sample_root.result c.sample_root.ensures.same.3 c.sample_head-head.ensures.same.3 c.requires.held now c.in-Some.is
+    c.sample_root.result (c.a_pass_reads_on.ensures.through a.pass.now mid new c.sample_root.ensures.same.3
+    c.sample_head-head.ensures.same.3) c.requires.held now c.in-Some.is
     c.sample_root.ensures.answer c.sample_root.ensures.missing c.sample_head-head.ensures.narrows c.sample_head-head.ensures.answer in
     let valid : IsValidHead c.sample_head-head.result = search rules in
     subst (IsSeatOf songs) (same_Some _ seat e)
