@@ -90,8 +90,7 @@ pub asked_more : (first many : ℕ) (old mid new : ReaderState) (seat seat_mid :
     → HasFollowed (word_of first) (last_word first many) mid new steps_mid steps_new
     → HasReadOn old new → AreCounted old new steps steps_new
     → HasAskedAll first many old new seat (record seat_mid { words = words }) steps steps_new
-asked_more first many old mid new seat seat_mid words steps steps_mid steps_new some behind has seated numbers followed
-on counted =
+asked_more first many old mid new seat seat_mid words steps steps_mid steps_new some behind has seated numbers followed on counted =
     let from = word_of first in
     let to = last_word first many in
     let ne : to ≢ from = omega (arith, some, behind) in record {
