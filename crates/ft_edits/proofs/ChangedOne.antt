@@ -1,5 +1,5 @@
 -- Each edit of a pattern, an instrument or a sample changes that one alone.
-use Rattle.std.proofs.Common.{◌≡◌, refl, arith, inl, inr}
+use Rattle.std.proofs.Common.{refl, arith, inl, inr}
 use Rattle.ft_types.specs.declared.edit.Edit.TheVariants as edits
 use Rattle.ft_edits.specs.Laws.{ChangesPattern, ChangesInstrument, ChangesSamples, ChangesFrames}
 
