@@ -12,7 +12,8 @@ use Rattle.ft_text.specs.Texts.{spaced, edit_text, batch_text}
 use Rattle.ft_text.specs.Reading.{LinePlace, give, follow, ◌>>=◌, spaces, is_over, or_wrong}
 use Rattle.ft_text.specs.Edits.{edit_reading}
 use Rattle.ft_text.specs.Lines.{this_word, begins_with_hash, others_reading, edits_reading, time_if, time_reading, timed_reading, value_only, beginning, read_from, line_of}
-use Rattle.ft_text.specs.ReadBack.{HasRanges, IsBatch}
+use Rattle.ft_types.specs.EditParts.{EditHasRanges}
+use Rattle.ft_text.specs.ReadBack.{IsBatch}
 use Rattle.ft_text.specs.LedgerWords.{one_edit, then_others, each_edit, if_text, most_edits, batch_of}
 use Rattle.ft_text.proofs.WordsBack.{place, ends_word, word_is_wrong, still_ends, same_behind_space, not_over_behind_space}
 use Rattle.ft_text.proofs.EditsBack.{IsWritten, is_written}
@@ -172,12 +173,12 @@ cut x (edit ∷ edits) none =
     ∙ split_at 59 (x ++ 32 ∷ []) rest (avoids_append 59 x (32 ∷ []) none refl)
     ∙ ap (λ parts. (x ++ 32 ∷ []) ∷ parts) (cut (32 ∷ edit_text edit) edits (no_separator_in edit))
 
-each_says : (x : List ℕ) (edit : Edit) (edits : List Edit) → SaysEdit edit x → All HasRanges edits → All IsGivable edits
+each_says : (x : List ℕ) (edit : Edit) (edits : List Edit) → SaysEdit edit x → All EditHasRanges edits → All IsGivable edits
     → each_edit (parts_from x edits) ≡ Some (edit ∷ edits)
 each_says x edit [] says ranges givable = ap (λ said. then_others (Some []) (one_edit said)) says.alone
 each_says x edit (next ∷ edits) says ranges givable =
-    let w = is_written next (All-head HasRanges next edits ranges) (All-head IsGivable next edits givable) in
-    let rest = each_says (32 ∷ edit_text next) next edits (later_part next w) (All-tail HasRanges next edits ranges)
+    let w = is_written next (All-head EditHasRanges next edits ranges) (All-head IsGivable next edits givable) in
+    let rest = each_says (32 ∷ edit_text next) next edits (later_part next w) (All-tail EditHasRanges next edits ranges)
     (All-tail IsGivable next edits givable) in
     ap (λ es. then_others es (one_edit (line_of 0 (x ++ 32 ∷ [])))) rest
     ∙ ap (λ said. then_others (Some (next ∷ edits)) (one_edit said)) says.spaced
@@ -188,9 +189,9 @@ pub text_gives : (form : ℕ) (edits : List Edit) → IsBatch edits → length e
 unfolding batch_of batch_text
 text_gives form [] batch few = absurd (omega (arith, batch.some))
 text_gives form (edit ∷ edits) batch few =
-    let ranges = All-tail HasRanges edit edits batch.ranges in
+    let ranges = All-tail EditHasRanges edit edits batch.ranges in
     let givable = All-tail IsGivable edit edits batch.givable in
-    let w = is_written edit (All-head HasRanges edit edits batch.ranges) (All-head IsGivable edit edits batch.givable) in
+    let w = is_written edit (All-head EditHasRanges edit edits batch.ranges) (All-head IsGivable edit edits batch.givable) in
     let text = edit_text edit ++ others edits in
     let most = most_edits form in
     let all : each_edit (split 59 text) ≡ Some (edit ∷ edits) =

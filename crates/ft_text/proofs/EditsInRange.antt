@@ -1,19 +1,26 @@
 -- What a line says is in the ranges of the types.
-use Rattle.std.proofs.Common.{◌≡◌, ℕ, zero, suc, ◌+◌, ◌^◌, ◌<◌, ◌≤◌, inl, inr, List, [], ◌∷◌, length, codes, Option, Some, None, Result, Ok, Err, ℤ, refl, sym, ap, subst, ◌∙◌, arith}
-use Rattle.std.specs.Prelude.{FitsSigned, IfSome, bytes_eq}
+use Rattle.std.proofs.Common.{◌≡◌, ℕ, zero, suc, ◌+◌, ◌^◌, ◌<◌, ◌≤◌, inl, inr, List, [], ◌∷◌, length, codes, Option, Some, None, Result, Ok, Err, ℤ, pos, refl, sym, ap, subst, ◌∙◌, arith}
+use Rattle.std.specs.Prelude.{FitsSigned, IfSome, bytes_eq, option_map, map}
 use Rattle.std.specs.Int.{w8, w16}
 use Rattle.std.specs.List.{All}
 use Rattle.std.proofs.lemmas.Bool.{cases_Bool, cond-true, cond-false}
 use Rattle.std.proofs.lemmas.List.Elements.{All-nil, All-cons}
 use Rattle.ft_types.specs.declared.edit.Edit.{Edit}
-use Rattle.ft_types.specs.declared.edit.Edit.TheVariants as edits
+use Rattle.ft_types.specs.declared.edit_kind.EditKind.{EditKind}
+use Rattle.ft_types.specs.declared.edit_kind.NumberType.{NumberType}
+use Rattle.ft_types.specs.declared.edit_kind.NumberType.TheVariants.{U8, U16, U32, I8, I16}
+use Rattle.ft_types.specs.declared.edit_kind.LastType.{LastType}
+use Rattle.ft_types.specs.declared.edit_kind.LastType.TheVariants.{Nothing, Title, Name, Frames}
+use Rattle.ft_types.specs.Valid.{IsBytes}
+use Rattle.ft_types.specs.Signatures.{signature, every_kind, IsNaturalBelow, IsOfType, AreOfTypes}
 use Rattle.ft_types.specs.Edits.{IsGivable}
 use Rattle.ft_text.specs.Values.{number_of, signed_of, name_of, frames_of}
 use Rattle.ft_text.specs.Reading.{LinePlace, Reading, give, follow, ◌>>=◌, or_wrong, next_word, word, is_over, behind_spaces}
-use Rattle.ft_text.specs.Edits.{u8, u16, u32, i8, i16, name_20, name_22, frames_argument, cell_reading, rows_reading, insrow_reading, delrow_reading, clear_reading, transpose_reading, copy_reading, order_reading, insorder_reading, delorder_reading, restart_reading, tempo_reading, bpm_reading, title_reading, newpat_reading, delpat_reading, newins_reading, clearins_reading, insname_reading, map_reading, env_reading, point_reading, vib_reading, fade_reading, newsmp_reading, delsmp_reading, smpname_reading, smp_reading, loop_reading, cut_reading, paste_reading, reverse_reading, scale_reading, bits_reading, readings, named, edit_reading}
+use Rattle.ft_text.specs.Edits.{u32, name_20, name_22, frames_argument, natural_word, number_word, numbers_reading, closing_reading, kind_reading, named_reading, readings, named, edit_reading}
 use Rattle.ft_text.specs.Lines.{this_word, another_reading, others_reading, edits_reading, time_if, time_reading, timed_reading, value_only, beginning, read_from, line_of}
-use Rattle.ft_text.specs.ReadBack.{HasRanges, IsName}
+use Rattle.ft_types.specs.EditParts.{InParts, edit_parts, edit_of, IsLastPart, AreGiven, FollowsTable, EditHasRanges}
 use Rattle.ft_text.specs.ReadRanges.{IsLineInRange}
+use Rattle.ft_text.proofs.WholeEdits.{are_kept, given_frames}
 use Rattle.ft_text.proofs.WordsExact.{number_within}
 use Rattle.ft_text.proofs.ValuesInRange.{signed_8, signed_16, name_is, frames_are}
 
@@ -51,202 +58,71 @@ number_gives : (most limit : ℕ) → most < limit → Gives (λ n. n < limit) (
 number_gives most limit within = word_gives (λ n. n < limit) (number_of most)
     (λ w n h. omega (arith, within, number_within most n w h))
 
-u8_then : {Q : Edit → Type 0} {next : ℕ → Reading Edit} → ((n : ℕ) → n < 2 ^ 8 → Gives Q (next n)) → Gives Q (u8 >>= next)
-unfolding u8
-u8_then {Q} {next} each = then (λ n. n < 2 ^ 8) Q u8 next (number_gives 255 (2 ^ 8) (omega arith)) each
-
-u16_then : {Q : Edit → Type 0} {next : ℕ → Reading Edit} → ((n : ℕ) → n < 2 ^ 16 → Gives Q (next n)) → Gives Q (u16 >>= next)
-unfolding u16
-u16_then {Q} {next} each = then (λ n. n < 2 ^ 16) Q u16 next (number_gives 65535 (2 ^ 16) (omega arith)) each
-
 u32_gives : Gives (λ n. n < 2 ^ 32) u32
 unfolding u32
 u32_gives = number_gives 4294967295 (2 ^ 32) (omega arith)
 
-u32_then : {Q : Edit → Type 0} {next : ℕ → Reading Edit} → ((n : ℕ) → n < 2 ^ 32 → Gives Q (next n)) → Gives Q (u32 >>= next)
-u32_then {Q} {next} each = then (λ n. n < 2 ^ 32) Q u32 next u32_gives each
+natural_gives : (most limit : ℕ) → limit ≡ most + 1 → Gives (IsNaturalBelow limit) (word (natural_word most))
+natural_gives most limit e = word_gives (IsNaturalBelow limit) (natural_word most) (λ w z h. go w (number_of most w) refl z h) where
+  go : (w : List ℕ) (o : Option ℕ) → number_of most w ≡ o → (z : ℤ) → option_map pos o ≡ Some z → IsNaturalBelow limit z
+  go w None is z h = absurd (cc)
+  go w (Some n) is z h =
+      let same : pos n ≡ z = cc in
+      subst (IsNaturalBelow limit) same (omega (arith, e, number_within most n w is))
 
-i8_then : {Q : Edit → Type 0} {next : ℤ → Reading Edit} → ((z : ℤ) → FitsSigned w8 z → Gives Q (next z)) → Gives Q (i8 >>= next)
-unfolding i8
-i8_then {Q} {next} each = then (FitsSigned w8) Q i8 next (word_gives (FitsSigned w8) (signed_of 127) signed_8) each
+number_type_gives : (t : NumberType) → Gives (IsOfType t) (word (number_word t))
+number_type_gives U8 = natural_gives 255 (2 ^ 8) (omega arith)
+number_type_gives U16 = natural_gives 65535 (2 ^ 16) (omega arith)
+number_type_gives U32 = natural_gives 4294967295 (2 ^ 32) (omega arith)
+number_type_gives I8 = word_gives (FitsSigned w8) (signed_of 127) signed_8
+number_type_gives I16 = word_gives (FitsSigned w16) (signed_of 32767) signed_16
 
-i16_then : {Q : Edit → Type 0} {next : ℤ → Reading Edit} → ((z : ℤ) → FitsSigned w16 z → Gives Q (next z)) → Gives Q (i16 >>= next)
-unfolding i16
-i16_then {Q} {next} each = then (FitsSigned w16) Q i16 next (word_gives (FitsSigned w16) (signed_of 32767) signed_16) each
+numbers_give : (ts : List NumberType) → Gives (AreOfTypes ts) (numbers_reading ts)
+numbers_give [] = gives_it (AreOfTypes []) [] tt
+numbers_give (t ∷ ts) = then (IsOfType t) (AreOfTypes (t ∷ ts)) (word (number_word t)) (λ n. numbers_reading ts >>= (λ ns. give (n ∷ ns)))
+    (number_type_gives t) (λ n is. then (AreOfTypes ts) (AreOfTypes (t ∷ ts)) (numbers_reading ts) (λ ns. give (n ∷ ns)) (numbers_give ts)
+    (λ ns are. gives_it (AreOfTypes (t ∷ ts)) (n ∷ ns) (is, are)))
 
-name_20_then : {Q : Edit → Type 0} {next : List ℕ → Reading Edit} → ((name : List ℕ) → IsName 20 name → Gives Q (next name))
-    → Gives Q (name_20 >>= next)
-unfolding name_20
-name_20_then {Q} {next} each = then (IsName 20) Q name_20 next (word_gives (IsName 20) (name_of 20) (name_is 20)) each
-
-name_22_then : {Q : Edit → Type 0} {next : List ℕ → Reading Edit} → ((name : List ℕ) → IsName 22 name → Gives Q (next name))
-    → Gives Q (name_22 >>= next)
-unfolding name_22
-name_22_then {Q} {next} each = then (IsName 22) Q name_22 next (word_gives (IsName 22) (name_of 22) (name_is 22)) each
+-- a name and frames that can be given
+abbrev IsClosing : LastType → (List ℕ × List ℤ) → Type 0
+IsClosing t closing = IsLastPart t closing.0 closing.1 × AreGiven t closing.1
 
 abbrev AreFrames : List ℤ → Type 0
 AreFrames frames = (1 ≤ length frames) × (length frames ≤ 256) × All (FitsSigned w16) frames
 
-frames_then : {Q : Edit → Type 0} {next : List ℤ → Reading Edit} → ((frames : List ℤ) → AreFrames frames → Gives Q (next frames))
-    → Gives Q (frames_argument >>= next)
-unfolding frames_argument
-frames_then {Q} {next} each = then AreFrames Q frames_argument next (word_gives AreFrames frames_of frames_are) each
+closing_gives : (t : LastType) → Gives (IsClosing t) (closing_reading t)
+unfolding name_20 name_22 frames_argument
+closing_gives Nothing = gives_it (IsClosing Nothing) ([], []) ((refl, refl), tt)
+closing_gives Title = then (IsBytes 20) (IsClosing Title) (word (name_of 20)) (λ name. give (name, []))
+    (word_gives (IsBytes 20) (name_of 20) (name_is 20)) (λ name is. gives_it (IsClosing Title) (name, []) ((is, refl), tt))
+closing_gives Name = then (IsBytes 22) (IsClosing Name) (word (name_of 22)) (λ name. give (name, []))
+    (word_gives (IsBytes 22) (name_of 22) (name_is 22)) (λ name is. gives_it (IsClosing Name) (name, []) ((is, refl), tt))
+closing_gives Frames = then AreFrames (IsClosing Frames) (word frames_of) (λ frames. give ([], frames))
+    (word_gives AreFrames frames_of frames_are)
+    (λ frames are. gives_it (IsClosing Frames) ([], frames) ((refl, are.2), (are.0, are.1)))
 
 -- ---- edits
 
 abbrev Good : Edit → Type 0
-Good edit = HasRanges edit × IsGivable edit
+Good edit = EditHasRanges edit × IsGivable edit
 
-cell_gives : Gives Good cell_reading
-unfolding cell_reading
-cell_gives = u8_then (λ p p'. u16_then (λ r r'. u8_then (λ c c'. u8_then (λ note note'. u8_then (λ ins ins'. u8_then (λ vol vol'.
-    u8_then (λ eff eff'. u8_then (λ par par'.
-    gives_it Good (edits.Cell p r c note ins vol eff par) ((p', r', c', note', ins', vol', eff', par'), tt)))))))))
+parts_are_good : (p : InParts) → FollowsTable p → AreGiven (signature p.kind).last p.frames → Good (edit_of p)
+parts_are_good p follows given =
+    let same : p ≡ edit_parts (edit_of p) = sym (are_kept p follows) in (
+      subst FollowsTable same follows,
+      given_frames (edit_of p) (subst (λ q. AreGiven (signature q.kind).last q.frames) same given),
+    )
 
-rows_gives : Gives Good rows_reading
-unfolding rows_reading
-rows_gives = u8_then (λ p p'. u16_then (λ n n'. gives_it Good (edits.Rows p n) ((p', n'), tt)))
-
-insrow_gives : Gives Good insrow_reading
-unfolding insrow_reading
-insrow_gives = u8_then (λ p p'. u16_then (λ r r'. gives_it Good (edits.Insrow p r) ((p', r'), tt)))
-
-delrow_gives : Gives Good delrow_reading
-unfolding delrow_reading
-delrow_gives = u8_then (λ p p'. u16_then (λ r r'. gives_it Good (edits.Delrow p r) ((p', r'), tt)))
-
-clear_gives : Gives Good clear_reading
-unfolding clear_reading
-clear_gives = u8_then (λ p p'. u16_then (λ r r'. u8_then (λ c c'. u16_then (λ h h'. u8_then (λ w w'.
-    gives_it Good (edits.Clear p r c h w) ((p', r', c', h', w'), tt))))))
-
-transpose_gives : Gives Good transpose_reading
-unfolding transpose_reading
-transpose_gives = u8_then (λ p p'. u16_then (λ r r'. u8_then (λ c c'. u16_then (λ h h'. u8_then (λ w w'. i8_then (λ d d'.
-    gives_it Good (edits.Transpose p r c h w d) ((p', r', c', h', w', d'), tt)))))))
-
-copy_gives : Gives Good copy_reading
-unfolding copy_reading
-copy_gives = u8_then (λ p p'. u16_then (λ r r'. u8_then (λ c c'. u16_then (λ h h'. u8_then (λ w w'. u8_then (λ q q'.
-    u16_then (λ r2 r2'. u8_then (λ c2 c2'. gives_it Good (edits.Copy p r c h w q r2 c2) ((p', r', c', h', w', q', r2', c2'), tt)))))))))
-
-order_gives : Gives Good order_reading
-unfolding order_reading
-order_gives = u16_then (λ position position'. u8_then (λ p p'. gives_it Good (edits.Order position p) ((position', p'), tt)))
-
-insorder_gives : Gives Good insorder_reading
-unfolding insorder_reading
-insorder_gives = u16_then (λ position position'. u8_then (λ p p'. gives_it Good (edits.Insorder position p) ((position', p'), tt)))
-
-delorder_gives : Gives Good delorder_reading
-unfolding delorder_reading
-delorder_gives = u16_then (λ position position'. gives_it Good (edits.Delorder position) (position', tt))
-
-restart_gives : Gives Good restart_reading
-unfolding restart_reading
-restart_gives = u16_then (λ position position'. gives_it Good (edits.Restart position) (position', tt))
-
-tempo_gives : Gives Good tempo_reading
-unfolding tempo_reading
-tempo_gives = u8_then (λ n n'. gives_it Good (edits.Tempo n) (n', tt))
-
-bpm_gives : Gives Good bpm_reading
-unfolding bpm_reading
-bpm_gives = u8_then (λ n n'. gives_it Good (edits.Bpm n) (n', tt))
-
-title_gives : Gives Good title_reading
-unfolding title_reading
-title_gives = name_20_then (λ name name'. gives_it Good (edits.Title name) (name', tt))
-
-newpat_gives : Gives Good newpat_reading
-unfolding newpat_reading
-newpat_gives = u16_then (λ n n'. gives_it Good (edits.Newpat n) (n', tt))
-
-delpat_gives : Gives Good delpat_reading
-unfolding delpat_reading
-delpat_gives = gives_it Good edits.Delpat (tt, tt)
-
-newins_gives : Gives Good newins_reading
-unfolding newins_reading
-newins_gives = gives_it Good edits.Newins (tt, tt)
-
-clearins_gives : Gives Good clearins_reading
-unfolding clearins_reading
-clearins_gives = u8_then (λ i i'. gives_it Good (edits.Clearins i) (i', tt))
-
-insname_gives : Gives Good insname_reading
-unfolding insname_reading
-insname_gives = u8_then (λ i i'. name_22_then (λ name name'. gives_it Good (edits.Insname i name) ((i', name'), tt)))
-
-map_gives : Gives Good map_reading
-unfolding map_reading
-map_gives = u8_then (λ i i'. u8_then (λ n n'. u8_then (λ k k'. gives_it Good (edits.Map i n k) ((i', n', k'), tt))))
-
-env_gives : Gives Good env_reading
-unfolding env_reading
-env_gives = u8_then (λ i i'. u8_then (λ w w'. u8_then (λ count count'. u8_then (λ sus sus'. u8_then (λ ls ls'. u8_then (λ le le'.
-    u8_then (λ flags flags'. gives_it Good (edits.Env i w count sus ls le flags) ((i', w', count', sus', ls', le', flags'), tt))))))))
-
-point_gives : Gives Good point_reading
-unfolding point_reading
-point_gives = u8_then (λ i i'. u8_then (λ w w'. u8_then (λ k k'. u16_then (λ x x'. u8_then (λ y y'.
-    gives_it Good (edits.Point i w k x y) ((i', w', k', x', y'), tt))))))
-
-vib_gives : Gives Good vib_reading
-unfolding vib_reading
-vib_gives = u8_then (λ i i'. u8_then (λ kind kind'. u8_then (λ sweep sweep'. u8_then (λ depth depth'. u8_then (λ rate rate'.
-    gives_it Good (edits.Vib i kind sweep depth rate) ((i', kind', sweep', depth', rate'), tt))))))
-
-fade_gives : Gives Good fade_reading
-unfolding fade_reading
-fade_gives = u8_then (λ i i'. u16_then (λ n n'. gives_it Good (edits.Fade i n) ((i', n'), tt)))
-
-newsmp_gives : Gives Good newsmp_reading
-unfolding newsmp_reading
-newsmp_gives = u8_then (λ i i'. gives_it Good (edits.Newsmp i) (i', tt))
-
-delsmp_gives : Gives Good delsmp_reading
-unfolding delsmp_reading
-delsmp_gives = u8_then (λ i i'. gives_it Good (edits.Delsmp i) (i', tt))
-
-smpname_gives : Gives Good smpname_reading
-unfolding smpname_reading
-smpname_gives = u8_then (λ i i'. u8_then (λ s s'. name_22_then (λ name name'.
-    gives_it Good (edits.Smpname i s name) ((i', s', name'), tt))))
-
-smp_gives : Gives Good smp_reading
-unfolding smp_reading
-smp_gives = u8_then (λ i i'. u8_then (λ s s'. u8_then (λ vol vol'. i8_then (λ fine fine'. i8_then (λ rel rel'. u8_then (λ pan pan'.
-    gives_it Good (edits.Smp i s vol fine rel pan) ((i', s', vol', fine', rel', pan'), tt)))))))
-
-loop_gives : Gives Good loop_reading
-unfolding loop_reading
-loop_gives = u8_then (λ i i'. u8_then (λ s s'. u8_then (λ kind kind'. u32_then (λ start start'. u32_then (λ len len'.
-    gives_it Good (edits.Loop i s kind start len) ((i', s', kind', start', len'), tt))))))
-
-cut_gives : Gives Good cut_reading
-unfolding cut_reading
-cut_gives = u8_then (λ i i'. u8_then (λ s s'. u32_then (λ from from'. u32_then (λ to to'.
-    gives_it Good (edits.Cut i s from to) ((i', s', from', to'), tt)))))
-
-paste_gives : Gives Good paste_reading
-unfolding paste_reading
-paste_gives = u8_then (λ i i'. u8_then (λ s s'. u32_then (λ at at'. frames_then (λ frames frames'.
-    gives_it Good (edits.Paste i s at frames) ((i', s', at', frames'.2), (frames'.0, frames'.1))))))
-
-reverse_gives : Gives Good reverse_reading
-unfolding reverse_reading
-reverse_gives = u8_then (λ i i'. u8_then (λ s s'. u32_then (λ from from'. u32_then (λ to to'.
-    gives_it Good (edits.Reverse i s from to) ((i', s', from', to'), tt)))))
-
-scale_gives : Gives Good scale_reading
-unfolding scale_reading
-scale_gives = u8_then (λ i i'. u8_then (λ s s'. u32_then (λ from from'. u32_then (λ to to'. i16_then (λ n n'. u16_then (λ d d'.
-    gives_it Good (edits.Scale i s from to n d) ((i', s', from', to', n', d'), tt)))))))
-
-bits_gives : Gives Good bits_reading
-unfolding bits_reading
-bits_gives = u8_then (λ i i'. u8_then (λ s s'. u8_then (λ b b'. gives_it Good (edits.Bits i s b) ((i', s', b'), tt))))
+kind_gives : (kind : EditKind) → Gives Good (kind_reading kind)
+unfolding kind_reading
+kind_gives kind =
+    let made : List ℤ → (List ℕ × List ℤ) → Edit =
+    λ ns c. edit_of (record { kind = kind; numbers = ns; name = c.0; frames = c.1 }) in
+    then (AreOfTypes (signature kind).numbers) Good (numbers_reading (signature kind).numbers)
+    (λ ns. closing_reading (signature kind).last >>= (λ c. give (made ns c))) (numbers_give (signature kind).numbers) (λ ns are.
+    then (IsClosing (signature kind).last) Good (closing_reading (signature kind).last) (λ c. give (made ns c))
+    (closing_gives (signature kind).last) (λ c is. gives_it Good (made ns c)
+    (parts_are_good (record { kind = kind; numbers = ns; name = c.0; frames = c.1 }) (are, is.0) is.1)))
 
 -- ---- an edit behind its name
 
@@ -265,18 +141,13 @@ named_gives (row ∷ rows) give w reading h = elim (cases_Bool (bytes_eq w row.0
   | inr other ↦ named_gives rows give.1 w reading (sym (cond-false (bytes_eq w row.0) (Some row.1) (named rows w) other) ∙ h)
 ]
 
-infixr 4 ◌&◌
-◌&◌ : {A B : Type 0} → A → B → A × B
-(a & b) = (a, b)
+kinds_give : (ks : List EditKind) → RowsGive (map named_reading ks)
+kinds_give [] = tt
+kinds_give (k ∷ ks) = (kind_gives k, kinds_give ks)
 
 rows_give : RowsGive readings
 unfolding readings
-rows_give =
-    cell_gives & rows_gives & insrow_gives & delrow_gives & clear_gives & transpose_gives & copy_gives & order_gives &
-    insorder_gives & delorder_gives & restart_gives & tempo_gives & bpm_gives & title_gives & newpat_gives &
-    delpat_gives & newins_gives & clearins_gives & insname_gives & map_gives & env_gives & point_gives & vib_gives &
-    fade_gives & newsmp_gives & delsmp_gives & smpname_gives & smp_gives & loop_gives & cut_gives & paste_gives &
-    reverse_gives & scale_gives & bits_gives & tt
+rows_give = kinds_give every_kind
 
 edit_gives : Gives Good edit_reading
 unfolding edit_reading
@@ -288,7 +159,7 @@ edit_gives = then (Gives Good) Good (word (named readings)) (λ reading. reading
 record AreGood (least most : ℕ) (edits : List Edit) : Type 0 where
   pub some : least ≤ length edits
   pub few : length edits ≤ most
-  pub ranges : All HasRanges edits
+  pub ranges : All EditHasRanges edits
   pub givable : All IsGivable edits
 
 one_more : (least most : ℕ) (edit : Edit) (others : List Edit) → Good edit → AreGood least most others
@@ -296,12 +167,12 @@ one_more : (least most : ℕ) (edit : Edit) (others : List Edit) → Good edit �
 one_more least most edit others good are = record {
   some = omega (arith, are.some);
   few = omega (arith, are.few);
-  ranges = All-cons HasRanges edit others good.0 are.ranges;
+  ranges = All-cons EditHasRanges edit others good.0 are.ranges;
   givable = All-cons IsGivable edit others good.1 are.givable;
 }
 
 no_edits : (most : ℕ) → AreGood 0 most []
-no_edits most = record { some = omega arith; few = omega arith; ranges = All-nil HasRanges; givable = All-nil IsGivable }
+no_edits most = record { some = omega arith; few = omega arith; ranges = All-nil EditHasRanges; givable = All-nil IsGivable }
 
 another_gives : Gives Good another_reading
 unfolding another_reading

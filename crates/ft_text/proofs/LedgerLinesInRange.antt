@@ -22,7 +22,8 @@ use Rattle.ft_text.specs.Texts.{batch_text}
 use Rattle.ft_text.specs.Edits.{named}
 use Rattle.ft_text.specs.Lines.{this_word, line_of}
 use Rattle.ft_text.specs.Record.{IsEndStatus, HasHandCause}
-use Rattle.ft_text.specs.ReadBack.{HasRanges, IsBatch}
+use Rattle.ft_types.specs.EditParts.{EditHasRanges}
+use Rattle.ft_text.specs.ReadBack.{IsBatch}
 use Rattle.ft_text.specs.LedgerBack.{RunHasRanges, EntryHasRanges, FaultHasRanges, CauseHasRanges, RefusalHasRanges, TickHasRanges, HandHasRanges, SavedHasRanges, IsFirst}
 use Rattle.ft_text.specs.LedgerWords.{Taking, give, follow, ◌>>=◌, with_rest, word, u8_word, u16_word, u32_word, u64_word, said, one_edit, then_others, each_edit, if_text, batch_of, most_edits, batch, play, entry, no_pattern, no_row, no_channel, no_order, no_instrument, range, too_many, no_sample, cut, wrong, fault_by, fault, place, edit_cause, worn_cause, full_cause, cause_readings, cause, refusal, tick, hand_from, hand_causes, hand, saved_name, saved, is_told, status_of, end}
 use Rattle.ft_text.proofs.Cuts.{some_part}
@@ -109,7 +110,7 @@ pub record IsBatchOf (form : ℕ) (edits : List Edit) : Type 0 where
 
 record AreEdits (count : ℕ) (edits : List Edit) : Type 0 where
   pub count_is : length edits ≡ count
-  pub ranges : All HasRanges edits
+  pub ranges : All EditHasRanges edits
   pub givable : All IsGivable edits
 
 one_edit_is : (r : Result (Option (Option ℕ × List Edit)) ℕ) (edit : Edit) → one_edit r ≡ Some edit → r ≡ Ok (Some (None, edit ∷ []))
@@ -138,14 +139,14 @@ are_before (Some rest) (Some edit) edits h =
 each_are : (parts : List (List ℕ)) (edits : List Edit) → each_edit parts ≡ Some edits → AreEdits (length parts) edits
 each_are [] edits h =
     let same : [] ≡ edits = cc in
-    subst (AreEdits 0) same (record { count_is = refl; ranges = All-nil HasRanges; givable = All-nil IsGivable })
+    subst (AreEdits 0) same (record { count_is = refl; ranges = All-nil EditHasRanges; givable = All-nil IsGivable })
 each_are (part ∷ parts) edits h =
     let are = are_before (each_edit parts) (one_edit (line_of 0 part)) edits h in
     let rest = each_are parts are.rest are.rest_is in
     let is = lines_are_in_range 0 part None (are.first ∷ []) (one_edit_is (line_of 0 part) are.first are.first_is) in
     subst (AreEdits (length (part ∷ parts))) (sym are.both) (record {
       count_is = omega (arith, rest.count_is);
-      ranges = All-cons HasRanges are.first are.rest (is.ranges 0 are.first (omega arith)) rest.ranges;
+      ranges = All-cons EditHasRanges are.first are.rest (is.ranges 0 are.first (omega arith)) rest.ranges;
       givable = All-cons IsGivable are.first are.rest (is.givable 0 are.first (omega arith)) rest.givable;
     })
 

@@ -8,7 +8,6 @@ pub mod WordsBack
 pub mod ValuesBack
 pub mod EditsBack
 pub mod LinesBack
-pub mod Names
 pub mod Skipped
 pub mod Joined
 mod LedgerWorked
@@ -30,3 +29,9 @@ pub mod ValuesInRange
 pub mod EditsInRange
 pub mod LedgerLinesInRange
 pub mod LinesGoOn
+pub mod WholeEdits
+pub mod Closing
+pub mod KindNames
+pub mod NumbersRead
+pub mod Givable
+pub mod Fronts

@@ -10,7 +10,8 @@ use Rattle.ft_text.specs.Texts.{spaced, text_of_words, edit_text, batch_text}
 use Rattle.ft_text.specs.Reading.{LinePlace, give, follow, ◌>>=◌, spaces, is_over, or_wrong}
 use Rattle.ft_text.specs.Edits.{named, readings, edit_reading}
 use Rattle.ft_text.specs.Lines.{this_word, begins_with_hash, another_reading, others_reading, edits_reading, time_if, time_reading, timed_reading, value_only, beginning, read_from, line_of}
-use Rattle.ft_text.specs.ReadBack.{HasRanges, EditsAreReadBack, TextsDiffer, IsBatch, BatchesAreReadBack}
+use Rattle.ft_types.specs.EditParts.{EditHasRanges}
+use Rattle.ft_text.specs.ReadBack.{EditsAreReadBack, TextsDiffer, IsBatch, BatchesAreReadBack}
 use Rattle.ft_text.proofs.WordsBack.{place, is_solid, ends_word, IsWord, word_reads, word_is_wrong, word_taken, still_ends, same_behind_space, not_over, not_over_behind_space}
 use Rattle.ft_text.proofs.EditsBack.{is_name, IsWritten, is_written}
 
@@ -84,15 +85,15 @@ unfolding others_reading spaces
 no_others zero at = refl
 no_others (suc more) at = refl
 
-others_read : (edits : List Edit) (more at : ℕ) → length edits ≤ more → All HasRanges edits → All IsGivable edits
+others_read : (edits : List Edit) (more at : ℕ) → length edits ≤ more → All EditHasRanges edits → All IsGivable edits
     → (end : ℕ) × (others_reading more (place at (others_text edits)) ≡ Ok (edits, place end []))
 unfolding others_reading others_text
 others_read [] more at few ranges givable = (at, no_others more at)
 others_read (edit ∷ edits) zero at few ranges givable = absurd (omega arith)
 others_read (edit ∷ edits) (suc more) at few ranges givable =
-    let w = is_written edit (All-head HasRanges edit edits ranges) (All-head IsGivable edit edits givable) in
+    let w = is_written edit (All-head EditHasRanges edit edits ranges) (All-head IsGivable edit edits givable) in
     let p = another_reads edit w at (others_text edits) (others_end_a_word edits) in
-    let q = others_read edits more p.0 (omega arith) (All-tail HasRanges edit edits ranges) (All-tail IsGivable edit edits givable) in
+    let q = others_read edits more p.0 (omega arith) (All-tail EditHasRanges edit edits ranges) (All-tail IsGivable edit edits givable) in
     let open_line = not_over_behind_space at (codes ";") (32 ∷ (edit_text edit ++ others_text edits)) separator in
     let rest : Result (Edit × LinePlace) ℕ → Result (List Edit × LinePlace) ℕ =
     follow (λ e. others_reading more >>= (λ others. give (e ∷ others))) in
@@ -126,7 +127,7 @@ has_no_time name rest begins end =
     ap (time_if (place 0 (name ++ rest))) (word_is_wrong (this_word (codes "at")) 0 name rest begins.is end other)
 
 edits_are_read : (edit : Edit) (others : List Edit) (more : ℕ) (w : IsWritten edit) → length others ≤ more
-    → All HasRanges others → All IsGivable others
+    → All EditHasRanges others → All IsGivable others
     → (end : ℕ) × (edits_reading more (place 0 (edit_text edit ++ others_text others)) ≡ Ok (edit ∷ others, place end []))
 unfolding edits_reading
 edits_are_read edit others more w few ranges givable =
@@ -148,7 +149,7 @@ timed_is_read edits more end p time read =
     ap behind time ∙ ap last read
 
 line_says : (edit : Edit) (others : List Edit) (more : ℕ) (w : IsWritten edit) → length others ≤ more
-    → All HasRanges others → All IsGivable others → length (edit_text edit ++ others_text others) ≤ 4096
+    → All EditHasRanges others → All IsGivable others → length (edit_text edit ++ others_text others) ≤ 4096
     → line_of more (edit_text edit ++ others_text others) ≡ Ok (Some (None, edit ∷ others))
 line_says edit others more w few ranges givable short =
     let text = edit_text edit ++ others_text others in
@@ -185,7 +186,7 @@ unfolding others_text
 edits_are_read_back edit ranges givable =
     let w = is_written edit ranges givable in
     ap (line_of 0) (sym (append-nil (edit_text edit)))
-    ∙ line_says edit [] 0 w (omega arith) (All-nil HasRanges) (All-nil IsGivable) (short_text edit w)
+    ∙ line_says edit [] 0 w (omega arith) (All-nil EditHasRanges) (All-nil IsGivable) (short_text edit w)
 
 head_or : Edit → List Edit → Edit
 head_or edit [] = edit
@@ -207,8 +208,8 @@ batch_is_read_back : (edits : List Edit) → IsBatch edits → length (batch_tex
 unfolding others_text batch_text
 batch_is_read_back [] batch short = absurd (omega (arith, batch.some))
 batch_is_read_back (edit ∷ others) batch short =
-    let w = is_written edit (All-head HasRanges edit others batch.ranges) (All-head IsGivable edit others batch.givable) in
-    line_says edit others 15 w (omega (arith, batch.few)) (All-tail HasRanges edit others batch.ranges)
+    let w = is_written edit (All-head EditHasRanges edit others batch.ranges) (All-head IsGivable edit others batch.givable) in
+    line_says edit others 15 w (omega (arith, batch.few)) (All-tail EditHasRanges edit others batch.ranges)
     (All-tail IsGivable edit others batch.givable) short
 
 pub batches_are_read_back : BatchesAreReadBack

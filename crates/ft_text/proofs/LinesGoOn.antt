@@ -3,7 +3,7 @@
 use Rattle.std.proofs.Common.{◌≡◌, ◌≢◌, ℕ, suc, ◌+◌, ◌<◌, ◌≤◌, ◌==◌, false, ◌⊎◌, inl, inr, All, List, [], ◌∷◌, ◌++◌, length, map, Option, Some, None, Result, Ok, Err, refl, sym, ap, subst, ◌∙◌, arith, append_assoc, append-nil}
 use Rattle.std.specs.Prelude.{IfSome}
 use Rattle.std.specs.List.{onto_first, join_with_byte}
-use Rattle.std.proofs.lemmas.Bool.{cases_Bool, cond-true, cond-false}
+use Rattle.std.proofs.lemmas.Bool.{cases_Bool, cond-true, cond-false, eqb-true}
 use Rattle.std.proofs.lemmas.List.{length-append}
 use Rattle.std.proofs.lemmas.List.Concat.{flat_map-append}
 use Rattle.std.proofs.lemmas.List.Elements.{All-nil, All-cons, All-head, All-tail}
@@ -19,13 +19,13 @@ use Rattle.ft_text.specs.Ledger.{head_line, play_line, entry_line, refusal_line,
 use Rattle.ft_text.specs.LedgerWords.{said, head, play, entry, refusal, tick, hand, saved, end}
 use Rattle.ft_text.specs.LedgerReading.{LedgerPlace, line_number, one_line, line_at, line_or_wrong, lines_from, while_some, many, maybe_line, none_or, is_end, over, follow, ledger, ledger_start, ledger_of}
 use Rattle.ft_text.specs.LedgerBack.{RunHasRanges, EntryHasRanges, RefusalHasRanges, TickHasRanges, HandHasRanges, SavedHasRanges, AccountHasRanges, IsFirst, IsOld}
-use Rattle.ft_text.specs.LedgerExact.{AreLines, GoesOn}
+use Rattle.ft_text.specs.LedgerExact.{IsLedgerOf, AreLines, GoesOn}
 use Rattle.ft_text.proofs.Cuts.{some_part}
 use Rattle.ft_text.proofs.SplitsBack.{split}
 use Rattle.ft_text.proofs.LedgerPartsBack.{some_behind}
 use Rattle.ft_text.proofs.LedgerWhole.{whole_back, in_form_1, in_form_2, all_too}
 use Rattle.ft_text.proofs.LinesExact.{head_line_is, play_line_is, entry_line_is, refusal_line_is, tick_line_is, hand_line_is, saved_line_is, end_line_is}
-use Rattle.ft_text.proofs.WholeExact.{pair_ok, one_exact, written, lines_exact, written_map, written_hands, written_ticks, valued, made_of, from_end, from_saved, from_hands, from_ticks, from_refusals, from_entries, from_play}
+use Rattle.ft_text.proofs.WholeExact.{pair_ok, one_exact, written, lines_exact, written_map, written_hands, written_ticks, valued, made_of, from_end, from_saved, from_hands, from_ticks, from_refusals, from_entries, from_play, whole_exact}
 use Rattle.ft_text.proofs.Settled.{fault_is}
 use Rattle.ft_text.proofs.LedgerLinesInRange.{play_in_range, IsEntry, entry_in_range, IsRefusal, refusal_in_range, tick_in_range, hand_in_range, IsSaved, saved_in_range, IsStatus, end_in_range}
 
@@ -114,9 +114,21 @@ record Stopped (parts : List (List ℕ)) (n : ℕ) : Type 0 where
   pub lines : ledger_lines form account ≡ before ++ other
   pub fit : Fits form account
 
-abbrev Outcome : List (List ℕ) → Result (LedgerAccount × LedgerPlace) ℕ → Type 0
-Outcome parts (Ok read) = (form : ℕ) × Fits form read.0
-Outcome parts (Err n) = Stopped parts n
+-- what comes of a reading in a form
+abbrev OutcomeIn : ℕ → List (List ℕ) → Result (LedgerAccount × LedgerPlace) ℕ → Type 0
+OutcomeIn form parts (Ok read) = Fits form read.0
+OutcomeIn form parts (Err n) = Stopped parts n
+
+-- what comes of a reading of a ledger from its front on
+abbrev Outcome : LedgerPlace → List (List ℕ) → Result (LedgerAccount × LedgerPlace) ℕ → Type 0
+Outcome p parts (Ok read) = (form : ℕ) × (q : LedgerPlace) × (one_line (said head) p ≡ Ok (form, q)) × Fits form read.0
+Outcome p parts (Err n) = Stopped parts n
+
+in_some_form : (p q : LedgerPlace) (form : ℕ) (parts : List (List ℕ)) (r : Result (LedgerAccount × LedgerPlace) ℕ)
+    → one_line (said head) p ≡ Ok (form, q)
+    → OutcomeIn form parts r → Outcome p parts r
+in_some_form p q form parts (Ok read) e fit = (form, q, e, fit)
+in_some_form p q form parts (Err n) e stop = stop
 
 stopped_at : (parts before other : List (List ℕ)) (p : LedgerPlace) (n form : ℕ) (a : LedgerAccount) → At parts p before
     → n ≡ line_number p.at
@@ -305,23 +317,23 @@ lines_of_made form run es rs ts hs s status = refl
 
 over_out : (parts before : List (List ℕ)) (form : ℕ) (a : LedgerAccount) (p : LedgerPlace) → At parts p before
     → ledger_lines form a ≡ before
-    → Fits form a → Outcome parts (over a p)
+    → Fits form a → OutcomeIn form parts (over a p)
 unfolding over
 over_out parts before form a p here lines fit =
     let done : Result (LedgerAccount × LedgerPlace) ℕ = Ok (a, p) in
     let wrong : Result (LedgerAccount × LedgerPlace) ℕ = Err (line_number p.at) in
     elim (cases_Bool (is_end p.left)) [
-      | inl so ↦ subst (Outcome parts) (sym (cond-true (is_end p.left) done wrong so)) (form, fit)
-      | inr other ↦ subst (Outcome parts) (sym (cond-false (is_end p.left) done wrong other))
+      | inl so ↦ subst (OutcomeIn form parts) (sym (cond-true (is_end p.left) done wrong so)) fit
+      | inr other ↦ subst (OutcomeIn form parts) (sym (cond-false (is_end p.left) done wrong other))
           (stopped_at parts before [] p (line_number p.at) form a here refl (lines ∙ sym (append-nil before)) fit)
     ]
 
 end_out : (parts : List (List ℕ)) (form : ℕ) (run : Run) (es : List Entry) (rs : List Refusal) (ts : List TickReport) (hs : List HandEnd)
     (s : Option SavedLine) (p : LedgerPlace) → Suits form run es rs ts hs s → At parts p (to_saved form run es rs ts hs s)
-    → Outcome parts (from_end form run es rs ts hs s p)
+    → OutcomeIn form parts (from_end form run es rs ts hs s p)
 end_out parts form run es rs ts hs s p suits here = go (one_line (said (end form (length ts))) p) refl where
   go : (r : Result (ℕ × LedgerPlace) ℕ) → one_line (said (end form (length ts))) p ≡ r
-      → Outcome parts (follow (λ status. over (made_of run es rs ts hs s status)) r)
+      → OutcomeIn form parts (follow (λ status. over (made_of run es rs ts hs s status)) r)
   go (Err n) e =
       stopped_at parts (to_saved form run es rs ts hs s) (end_line 0 (length ts) ∷ []) p n form (made_of run es rs ts hs s 0) here
       (one_stops (said (end form (length ts))) p n e) (lines_of_made form run es rs ts hs s 0)
@@ -339,11 +351,11 @@ end_out parts form run es rs ts hs s p suits here = go (one_line (said (end form
 
 saved_out : (parts : List (List ℕ)) (form : ℕ) (run : Run) (es : List Entry) (rs : List Refusal) (ts : List TickReport) (hs : List HandEnd)
     (p : LedgerPlace) → Suits form run es rs ts hs None → At parts p (to_hands form run es rs ts hs)
-    → Outcome parts (from_saved form run es rs ts hs p)
+    → OutcomeIn form parts (from_saved form run es rs ts hs p)
 unfolding maybe_line
 saved_out parts form run es rs ts hs p suits here = go (one_line (said (saved form)) p) refl where
   go : (r : Result (SavedLine × LedgerPlace) ℕ) → one_line (said (saved form)) p ≡ r
-      → Outcome parts (follow (from_end form run es rs ts hs) (none_or p r))
+      → OutcomeIn form parts (follow (from_end form run es rs ts hs) (none_or p r))
   go (Err n) e = end_out parts form run es rs ts hs None p suits
       (subst (At parts p) (sym (append-nil (to_hands form run es rs ts hs))) here)
   go (Ok read) e =
@@ -366,7 +378,7 @@ saved_out parts form run es rs ts hs p suits here = go (one_line (said (saved fo
       (one_moves (said (saved form)) p read.1 read.0 e))
 
 hands_out : (parts : List (List ℕ)) (form : ℕ) (run : Run) (es : List Entry) (rs : List Refusal) (ts : List TickReport) (p : LedgerPlace)
-    → Suits form run es rs ts [] None → At parts p (to_ticks form run es rs ts) → Outcome parts (from_hands form run es rs ts p)
+    → Suits form run es rs ts [] None → At parts p (to_ticks form run es rs ts) → OutcomeIn form parts (from_hands form run es rs ts p)
 unfolding many
 hands_out parts form run es rs ts p suits here =
     let read = hands_in 0 p.left in
@@ -388,7 +400,7 @@ hands_out parts form run es rs ts p suits here =
     (map hand_line read.0) 0 p here (written_hands 0 read.0))
 
 ticks_out : (parts : List (List ℕ)) (form : ℕ) (run : Run) (es : List Entry) (rs : List Refusal) (p : LedgerPlace)
-    → Suits form run es rs [] [] None → At parts p (to_refusals form run es rs) → Outcome parts (from_ticks form run es rs p)
+    → Suits form run es rs [] [] None → At parts p (to_refusals form run es rs) → OutcomeIn form parts (from_ticks form run es rs p)
 unfolding many
 ticks_out parts form run es rs p suits here =
     let read = lines_from (λ n. said (tick n)) (λ n x. suc n) 0 p.left in
@@ -409,7 +421,7 @@ ticks_out parts form run es rs p suits here =
     (tick_lines 0 read.0) 0 p here (written_ticks 0 read.0))
 
 refusals_out : (parts : List (List ℕ)) (form : ℕ) (run : Run) (es : List Entry) (p : LedgerPlace)
-    → Suits form run es [] [] [] None → At parts p (to_entries form run es) → Outcome parts (from_refusals form run es p)
+    → Suits form run es [] [] [] None → At parts p (to_entries form run es) → OutcomeIn form parts (from_refusals form run es p)
 unfolding many
 refusals_out parts form run es p suits here =
     let read = lines_from {S = ℕ} (λ s. said (refusal form)) (λ s x. s) 0 p.left in
@@ -430,7 +442,7 @@ refusals_out parts form run es p suits here =
     (to_entries form run es) (map (refusal_line form) read.0) 0 p here (written_map (refusal_line form) 0 read.0))
 
 entries_out : (parts : List (List ℕ)) (form : ℕ) (run : Run) (p : LedgerPlace)
-    → Suits form run [] [] [] [] None → At parts p (to_play form run) → Outcome parts (from_entries form run p)
+    → Suits form run [] [] [] [] None → At parts p (to_play form run) → OutcomeIn form parts (from_entries form run p)
 unfolding many
 entries_out parts form run p suits here =
     let read = lines_from {S = ℕ} (λ s. said (entry form)) (λ s x. s) 0 p.left in
@@ -477,9 +489,9 @@ shortest_fits : (form : ℕ) → 1 ≤ form → form ≤ 2 → Fits form shortes
 shortest_fits form least most = fits form nothing_asked [] [] [] [] None 0 (nothing_suits form least most) (ended_well form)
 
 play_out : (parts : List (List ℕ)) (form : ℕ) (p : LedgerPlace) → 1 ≤ form → form ≤ 2 → At parts p (first_line form)
-    → Outcome parts (from_play form p)
+    → OutcomeIn form parts (from_play form p)
 play_out parts form p least most here = go (one_line (said play) p) refl where
-  go : (r : Result (Run × LedgerPlace) ℕ) → one_line (said play) p ≡ r → Outcome parts (follow (from_entries form) r)
+  go : (r : Result (Run × LedgerPlace) ℕ) → one_line (said play) p ≡ r → OutcomeIn form parts (follow (from_entries form) r)
   go (Err n) e = stopped_at parts (first_line form) (play_line nothing_asked ∷ end_line 0 0 ∷ []) p n form shortest here
       (one_stops (said play) p n e) (lines_of_made form nothing_asked [] [] [] [] None 0) (shortest_fits form least most)
   go (Ok read) e =
@@ -489,28 +501,59 @@ play_out parts form p least most here = go (one_line (said play) p) refl where
       entries_out parts form read.0 read.1 (no_parts form read.0 least most (play_in_range one.line read.0 one.says))
       (at_next parts (first_line form) (play_line read.0) p read.1 here cut (one_moves (said play) p read.1 read.0 e))
 
-ledger_out : (parts : List (List ℕ)) (p : LedgerPlace) → At parts p [] → Outcome parts (ledger p)
+ledger_out : (parts : List (List ℕ)) (p : LedgerPlace) → At parts p [] → Outcome p parts (ledger p)
 unfolding ledger
 ledger_out parts p here = go (one_line (said head) p) refl where
-  go : (r : Result (ℕ × LedgerPlace) ℕ) → one_line (said head) p ≡ r → Outcome parts (follow from_play r)
+  go : (r : Result (ℕ × LedgerPlace) ℕ) → one_line (said head) p ≡ r → Outcome p parts (follow from_play r)
   go (Err n) e = stopped_at parts [] (head_line 2 ∷ play_line nothing_asked ∷ end_line 0 0 ∷ []) p n 2 shortest here
       (one_stops (said head) p n e) (lines_of_made 2 nothing_asked [] [] [] [] None 0) (shortest_fits 2 (omega arith) (omega arith))
   go (Ok read) e =
       let one = one_exact (said head) p read.1 read.0 e in
       let is = head_line_is one.line read.0 one.says in
       let cut : p.left ≡ head_line read.0 ∷ (read.1).left = one.parts ∙ ap (λ l. l ∷ (read.1).left) is.0 in
-      play_out parts read.0 read.1 is.1 is.2
-      (at_next parts [] (head_line read.0) p read.1 here cut (one_moves (said head) p read.1 read.0 e))
+      in_some_form p read.1 read.0 parts (from_play read.0 read.1) e (play_out parts read.0 read.1 is.1 is.2
+      (at_next parts [] (head_line read.0) p read.1 here cut (one_moves (said head) p read.1 read.0 e)))
 
-bytes_out : (bytes : List ℕ) → Outcome (split 10 bytes) (ledger (ledger_start bytes))
+bytes_out : (bytes : List ℕ) → Outcome (ledger_start bytes) (split 10 bytes) (ledger (ledger_start bytes))
 bytes_out bytes = ledger_out (split 10 bytes) (ledger_start bytes) (record { cut = refl; some = some_part 10 bytes; count = refl })
 
 pub told_in_range : (bytes : List ℕ) (a : LedgerAccount) → ledger_of bytes ≡ Ok a → IsTellable a × AccountHasRanges a
 unfolding ledger_of
 told_in_range bytes a h =
     let read = valued (ledger (ledger_start bytes)) a h in
-    let out : Outcome (split 10 bytes) (Ok (a, read.0)) = subst (Outcome (split 10 bytes)) read.1 (bytes_out bytes) in
-    ((out.1).told, (out.1).ranges)
+    let out : Outcome (ledger_start bytes) (split 10 bytes) (Ok (a, read.0)) =
+    subst (Outcome (ledger_start bytes) (split 10 bytes)) read.1 (bytes_out bytes) in
+    ((out.3).told, (out.3).ranges)
+
+-- and form 1 writes only what it can
+pub told_in_form : (bytes : List ℕ) (a : LedgerAccount) (form : ℕ) (p : LedgerPlace)
+    → one_line (said head) (ledger_start bytes) ≡ Ok (form, p)
+    → ledger_of bytes ≡ Ok a → form ≡ 1 → IsOld a
+unfolding ledger_of
+told_in_form bytes a form p head_is h first =
+    let read = valued (ledger (ledger_start bytes)) a h in
+    let out : Outcome (ledger_start bytes) (split 10 bytes) (Ok (a, read.0)) =
+    subst (Outcome (ledger_start bytes) (split 10 bytes)) read.1 (bytes_out bytes) in
+    let same : out.0 ≡ form = (pair_ok out.0 form out.1 p (sym out.2 ∙ head_is)).0 in
+    (out.3).old (same ∙ first)
+
+two_of : (form : ℕ) → 1 ≤ form → form ≤ 2 → (form == 1) ≡ false → form ≡ 2
+two_of form least most other =
+    let not_one : form ≢ 1 = λ e. cc (other, ap (λ f. f == 1) e) in
+    omega (arith, least, most, not_one)
+
+-- what is read is the ledger of what was read
+pub read_is_written : (bytes : List ℕ) (a : LedgerAccount) → ledger_of bytes ≡ Ok a → IsLedgerOf bytes a
+read_is_written bytes a h =
+    let w = whole_exact bytes a h in
+    elim (cases_Bool (w.form == 1)) [
+      | inl so ↦
+          let one : w.form ≡ 1 = eqb-true w.form 1 so in
+          inr (told_in_form bytes a w.form w.place w.head_is h one, w.text ∙ ap (λ form. ledger_text form a) one)
+      | inr other ↦
+          let two : w.form ≡ 2 = two_of w.form w.least w.most other in
+          inl (w.text ∙ ap (λ form. ledger_text form a) two)
+    ]
 
 -- ---- bytes
 
@@ -562,7 +605,8 @@ pub lines_go_on : (bytes : List ℕ) (line : ℕ) → ledger_of bytes ≡ Err li
 unfolding ledger_of ledger_text
 lines_go_on bytes line h small =
     let parts = split 10 bytes in
-    let stop : Stopped parts line = subst (Outcome parts) (fault_is (ledger (ledger_start bytes)) line h) (bytes_out bytes) in
+    let stop : Stopped parts line = subst (Outcome (ledger_start bytes) parts) (fault_is (ledger (ledger_start bytes)) line h)
+    (bytes_out bytes) in
     record {
       lines = stop.before;
       rest = join_with_byte 10 stop.left;

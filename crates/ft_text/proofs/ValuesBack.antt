@@ -1,5 +1,5 @@
 -- Words of values, which say those values.
-use Rattle.std.proofs.Common.{◌≡◌, ◌≢◌, ℕ, zero, suc, ◌+◌, ◌-◌, ◌*◌, ◌/◌, ◌%◌, ◌^◌, ◌<◌, ◌≤◌, ◌==◌, true, cond, ◌&&◌, List, [], ◌∷◌, ◌++◌, length, get_or, replicate, nat_le, Some, None, ℤ, pos, negsuc, decimal, refl, sym, ap, ◌∙◌, arith, append-nil}
+use Rattle.std.proofs.Common.{◌≡◌, ◌≢◌, ℕ, zero, suc, ◌+◌, ◌-◌, ◌*◌, ◌/◌, ◌%◌, ◌^◌, ◌<◌, ◌≤◌, ◌==◌, true, cond, ◌&&◌, List, [], ◌∷◌, ◌++◌, length, get_or, map, replicate, nat_le, Some, None, ℤ, pos, negsuc, decimal, refl, sym, ap, ◌∙◌, arith, append-nil}
 use Rattle.std.specs.Prelude.{FitsSigned, bytes_eq, option_map}
 use Rattle.std.specs.Char.{digit_value}
 use Rattle.std.specs.Fmt.{signed_decimal}
@@ -17,13 +17,19 @@ use Rattle.std.proofs.lemmas.Nat.{from_be_bytes-to_be_bytes_2}
 use Rattle.std.proofs.lemmas.List.Elements.{All-nil, All-cons, All-head, All-tail}
 use Rattle.hex.specs.Hex.{encode_lower, encode_with, lower_digits, hex_digit_value}
 use Rattle.hex.proofs.HexLemmas.{decode_of-encode_lower, length-encode_with, IsDigits-lower_digits}
-use Rattle.ft_text.specs.Words.{frame_bytes}
+use Rattle.ft_types.specs.declared.edit_kind.NumberType.{NumberType}
+use Rattle.ft_types.specs.declared.edit_kind.NumberType.TheVariants.{U8, U16, U32, I8, I16}
+use Rattle.ft_types.specs.declared.edit_kind.LastType.{LastType}
+use Rattle.ft_types.specs.declared.edit_kind.LastType.TheVariants.{Nothing, Title, Name, Frames}
+use Rattle.ft_types.specs.Signatures.{IsNaturalBelow, IsOfType, AreOfTypes}
+use Rattle.ft_types.specs.EditParts.{IsLastPart, AreGiven}
+use Rattle.ft_text.specs.Words.{frame_bytes, closing_words}
 use Rattle.ft_text.specs.Values.{number_of, signed_of, is_within, name_of, filled, bytes_of, lower_only, doubles, frame_before, pasted_frames, doubles_if, frames_of}
-use Rattle.ft_text.specs.Reading.{word}
-use Rattle.ft_text.specs.Edits.{u8, u16, u32, i8, i16, name_20, name_22, frames_argument}
-use Rattle.ft_text.specs.ReadBack.{IsName}
+use Rattle.ft_text.specs.Reading.{give, word}
+use Rattle.ft_text.specs.Edits.{name_20, name_22, frames_argument, natural_word, number_word, numbers_reading, closing_reading}
+use Rattle.ft_types.specs.Valid.{IsBytes}
 use Rattle.ft_text.proofs.Decimals.{own, signed_below_zero, signed_from_zero, negated}
-use Rattle.ft_text.proofs.WordsBack.{is_solid, IsWord, Takes, word_taken}
+use Rattle.ft_text.proofs.WordsBack.{is_solid, IsWord, Takes, word_taken, TakesWords, nothing_taken, both_taken, made_of}
 
 -- ---- numbers
 
@@ -49,23 +55,12 @@ decimal_word n small = record {
   solid = solid_digits (decimal n) (digits_decimal own n small);
 }
 
-number_taken : (most n digits : ℕ) → 0 < digits → n ≤ most → most < 10 ^ digits → most < 2 ^ 64
-    → Takes (word (number_of most)) n (32 ∷ decimal n) (digits + 1)
-number_taken most n digits some within few small = word_taken (number_of most) n (decimal n) (digits + 1)
-    (decimal_word n (omega arith)) (number_back most n within small)
-    (omega (arith, length-decimal-le digits n some (omega arith) (omega arith)))
-
-pub u8_taken : (n : ℕ) → n < 2 ^ 8 → Takes u8 n (32 ∷ decimal n) 4
-unfolding u8
-u8_taken n small = number_taken 255 n 3 (omega arith) (omega arith) (omega arith) (omega arith)
-
-pub u16_taken : (n : ℕ) → n < 2 ^ 16 → Takes u16 n (32 ∷ decimal n) 6
-unfolding u16
-u16_taken n small = number_taken 65535 n 5 (omega arith) (omega arith) (omega arith) (omega arith)
-
-pub u32_taken : (n : ℕ) → n < 2 ^ 32 → Takes u32 n (32 ∷ decimal n) 11
-unfolding u32
-u32_taken n small = number_taken 4294967295 n 10 (omega arith) (omega arith) (omega arith) (omega arith)
+natural_taken : (most limit digits : ℕ) (z : ℤ) → limit ≡ most + 1 → IsNaturalBelow limit z → 0 < digits → most < 10 ^ digits
+    → most < 2 ^ 64 → Takes (word (natural_word most)) z (32 ∷ signed_decimal z) (digits + 1)
+natural_taken most limit digits (pos n) e is some few small = word_taken (natural_word most) (pos n) (decimal n) (digits + 1)
+    (decimal_word n (omega (arith, e, is, small))) (ap (option_map pos) (number_back most n (omega (arith, e, is)) small))
+    (omega (arith, e, is, length-decimal-le digits n some (omega (arith, e, is, few)) (omega (arith, e, is, small))))
+natural_taken most limit digits (negsuc n) e is some few small = absurd is
 
 -- ---- numbers with a sign
 
@@ -113,13 +108,33 @@ within_16 : (z : ℤ) → FitsSigned w16 z → is_within 32767 z ≡ true
 within_16 (pos n) fits = le-leb n 32767 (omega (arith, fits))
 within_16 (negsuc n) fits = le-leb n 32767 (omega (arith, fits))
 
-pub i8_taken : (z : ℤ) → FitsSigned w8 z → Takes i8 z (32 ∷ signed_decimal z) 5
-unfolding i8
-i8_taken z fits = signed_taken 127 3 z (within_8 z fits) (omega arith) (omega arith) (omega arith)
+-- how many bytes a number of a type has at most, with a space
+abbrev pub room_of : NumberType → ℕ
+room_of U8 = 4
+room_of U16 = 6
+room_of U32 = 11
+room_of I8 = 5
+room_of I16 = 7
 
-pub i16_taken : (z : ℤ) → FitsSigned w16 z → Takes i16 z (32 ∷ signed_decimal z) 7
-unfolding i16
-i16_taken z fits = signed_taken 32767 5 z (within_16 z fits) (omega arith) (omega arith) (omega arith)
+number_taken : (t : NumberType) (z : ℤ) → IsOfType t z → Takes (word (number_word t)) z (32 ∷ signed_decimal z) (room_of t)
+number_taken U8 z is = natural_taken 255 (2 ^ 8) 3 z (omega arith) is (omega arith) (omega arith) (omega arith)
+number_taken U16 z is = natural_taken 65535 (2 ^ 16) 5 z (omega arith) is (omega arith) (omega arith) (omega arith)
+number_taken U32 z is = natural_taken 4294967295 (2 ^ 32) 10 z (omega arith) is (omega arith) (omega arith) (omega arith)
+number_taken I8 z is = signed_taken 127 3 z (within_8 z is) (omega arith) (omega arith) (omega arith)
+number_taken I16 z is = signed_taken 32767 5 z (within_16 z is) (omega arith) (omega arith) (omega arith)
+
+-- numbers of these types
+abbrev pub room_of_all : List NumberType → ℕ
+room_of_all [] = 0
+room_of_all (t ∷ ts) = room_of t + room_of_all ts
+
+pub numbers_taken : (ts : List NumberType) (ns : List ℤ) → AreOfTypes ts ns
+    → TakesWords (numbers_reading ts) ns (map signed_decimal ns) (room_of_all ts)
+numbers_taken [] [] are = nothing_taken []
+numbers_taken [] (n ∷ ns) are = absurd are
+numbers_taken (t ∷ ts) [] are = absurd are
+numbers_taken (t ∷ ts) (n ∷ ns) are = both_taken (word (number_word t)) _ (number_taken t n are.0)
+    (made_of (λ ns. n ∷ ns) (numbers_taken ts ns are.1))
 
 -- ---- bytes in hexadecimal
 
@@ -157,26 +172,26 @@ bytes_back bytes all =
 
 -- ---- names
 
-name_back : (size : ℕ) (name : List ℕ) → 1 ≤ size → IsName size name → name_of size (encode_lower name) ≡ Some name
+name_back : (size : ℕ) (name : List ℕ) → 1 ≤ size → IsBytes size name → name_of size (encode_lower name) ≡ Some name
 name_back size name some is =
-    let full = is.full in
+    let full = is.len in
     let none : size - length name ≡ 0 = omega arith in
-    ap (filled size) (bytes_back name is.bytes)
+    ap (filled size) (bytes_back name is.each)
     ∙ (cond-true (nat_le 1 (length name) && nat_le (length name) size) (Some (name ++ replicate (size - length name) 0)) None
     (and_from _ _ (le-leb 1 (length name) (omega arith)) (le-leb (length name) size (omega arith)))
     ∙ ap Some (ap (λ k. name ++ replicate k 0) none ∙ append-nil name))
 
-name_taken : (size : ℕ) (name : List ℕ) → 1 ≤ size → size ≤ 22 → IsName size name
+name_taken : (size : ℕ) (name : List ℕ) → 1 ≤ size → size ≤ 22 → IsBytes size name
     → Takes (word (name_of size)) name (32 ∷ encode_lower name) 45
 name_taken size name some few is = word_taken (name_of size) name (encode_lower name) 45
-    (hex_word name (omega (arith, is.full)) is.bytes) (name_back size name some is)
-    (omega (arith, length-encode_with lower_digits name, is.full))
+    (hex_word name (omega (arith, is.len)) is.each) (name_back size name some is)
+    (omega (arith, length-encode_with lower_digits name, is.len))
 
-pub name_20_taken : (name : List ℕ) → IsName 20 name → Takes name_20 name (32 ∷ encode_lower name) 45
+pub name_20_taken : (name : List ℕ) → IsBytes 20 name → Takes name_20 name (32 ∷ encode_lower name) 45
 unfolding name_20
 name_20_taken name is = name_taken 20 name (omega arith) (omega arith) is
 
-pub name_22_taken : (name : List ℕ) → IsName 22 name → Takes name_22 name (32 ∷ encode_lower name) 45
+pub name_22_taken : (name : List ℕ) → IsBytes 22 name → Takes name_22 name (32 ∷ encode_lower name) 45
 unfolding name_22
 name_22_taken name is = name_taken 22 name (omega arith) (omega arith) is
 
@@ -220,3 +235,22 @@ frames_taken frames some few_enough all =
     word_taken frames_of frames (encode_lower (frame_bytes frames)) 1025
     (hex_word (frame_bytes frames) (omega arith) (bytes_of_frames frames)) (frames_back frames some few_enough all)
     (omega (arith, length-encode_with lower_digits (frame_bytes frames)))
+
+-- ---- what comes behind the numbers
+
+abbrev pub closing_room : LastType → ℕ
+closing_room Nothing = 0
+closing_room Title = 45
+closing_room Name = 45
+closing_room Frames = 1025
+
+pub closing_taken : (t : LastType) (name : List ℕ) (frames : List ℤ) → IsLastPart t name frames → AreGiven t frames
+    → TakesWords (closing_reading t) (name, frames) (closing_words t name frames) (closing_room t)
+closing_taken Nothing name frames is given = rw (is.0, is.1) (nothing_taken ([], []))
+closing_taken Title name frames is given =
+    rw is.1 (both_taken name_20 (λ name. give (name, [])) (name_20_taken name is.0) (nothing_taken (name, [])))
+closing_taken Name name frames is given =
+    rw is.1 (both_taken name_22 (λ name. give (name, [])) (name_22_taken name is.0) (nothing_taken (name, [])))
+closing_taken Frames name frames is given =
+    rw is.0 (both_taken frames_argument (λ frames. give ([], frames)) (frames_taken frames given.0 given.1 is.1)
+    (nothing_taken ([], frames)))

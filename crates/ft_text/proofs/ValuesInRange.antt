@@ -12,7 +12,7 @@ use Rattle.hex.specs.Hex.{decode_of, encode_lower}
 use Rattle.hex.specs.declared.error.FromHexError.{FromHexError}
 use Rattle.hex.proofs.HexLemmas.{decode_of-ok}
 use Rattle.ft_text.specs.Values.{signed_of, is_within, name_of, filled, bytes_of, lower_only, doubles, frame_before, pasted_frames, doubles_if, frames_of}
-use Rattle.ft_text.specs.ReadBack.{IsName}
+use Rattle.ft_types.specs.Valid.{IsBytes}
 
 -- ---- numbers with a sign
 
@@ -72,7 +72,7 @@ bytes_are w bytes h = go (decode_of w) refl h where
 -- ---- names
 
 filled_is : (size : ℕ) (name : List ℕ) (o : Option (List ℕ)) → ((bytes : List ℕ) → o ≡ Some bytes → All IsByte bytes)
-    → filled size o ≡ Some name → IsName size name
+    → filled size o ≡ Some name → IsBytes size name
 filled_is size name None each h = absurd (cc)
 filled_is size name (Some bytes) each h =
     let zeros : List ℕ = replicate (size - length bytes) 0 in
@@ -83,15 +83,15 @@ filled_is size name (Some bytes) each h =
           let few : length bytes ≤ size =
           leb-true (length bytes) size (and_parts (nat_le 1 (length bytes)) (nat_le (length bytes) size) so).1 in
           record {
-            full = sym (ap length same) ∙ length-append bytes zeros
+            len = sym (ap length same) ∙ length-append bytes zeros
                 ∙ omega (arith, few, length-replicate {A = ℕ} (size - length bytes) 0);
-            bytes = subst (All IsByte) same
+            each = subst (All IsByte) same
                 (All-append IsByte bytes zeros (each bytes refl) (All-replicate IsByte (size - length bytes) 0 (omega arith)));
           }
       | inr other ↦ absurd (cc (cond-false _ (Some (bytes ++ zeros)) None other, h))
     ]
 
-pub name_is : (size : ℕ) (w name : List ℕ) → name_of size w ≡ Some name → IsName size name
+pub name_is : (size : ℕ) (w name : List ℕ) → name_of size w ≡ Some name → IsBytes size name
 name_is size w name h = filled_is size name (bytes_of w) (bytes_are w) h
 
 -- ---- frames

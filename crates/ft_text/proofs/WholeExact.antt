@@ -1,5 +1,5 @@
 -- A whole ledger that is read is the ledger of what was read.
-use Rattle.std.proofs.Common.{◌≡◌, ℕ, suc, ◌+◌, ◌==◌, inl, inr, true, List, [], ◌∷◌, ◌++◌, length, map, Option, Some, None, Result, Ok, Err, refl, sym, ap, ◌∙◌, append_assoc, append-nil}
+use Rattle.std.proofs.Common.{◌≡◌, ◌≤◌, ℕ, suc, ◌+◌, ◌==◌, inl, inr, true, List, [], ◌∷◌, ◌++◌, length, map, Option, Some, None, Result, Ok, Err, refl, sym, ap, ◌∙◌, append_assoc, append-nil}
 use Rattle.std.specs.List.{join_with_byte}
 use Rattle.std.proofs.lemmas.Bool.{cases_Bool, cond-true, cond-false}
 use Rattle.std.proofs.lemmas.List.Splits.{join_with_byte-slice_split}
@@ -13,7 +13,6 @@ use Rattle.ft_text.specs.Record.{LedgerAccount}
 use Rattle.ft_text.specs.Ledger.{head_line, play_line, entry_line, refusal_line, tick_line, tick_lines, hand_line, saved_line, saved_lines, end_line, ledger_lines, ledger_text, joined_lines}
 use Rattle.ft_text.specs.LedgerWords.{said, head, play, entry, refusal, tick, hand, saved, end}
 use Rattle.ft_text.specs.LedgerReading.{LedgerPlace, LinesReading, line_number, one_line, line_at, line_or_wrong, lines_from, while_some, also, many, lines_of, maybe_line, none_or, is_end, over, follow, ◌>>=◌, ledger, ledger_value, ledger_start, ledger_of}
-use Rattle.ft_text.specs.LedgerExact.{IsLedgerOf}
 use Rattle.ft_text.proofs.SplitsBack.{split}
 use Rattle.ft_text.proofs.LinesExact.{head_line_is, play_line_is, entry_line_is, refusal_line_is, tick_line_is, hand_line_is, saved_line_is, end_line_is}
 
@@ -365,7 +364,16 @@ lines_are form a =
     (tick_lines 0 a.ticks)
     (map hand_line a.hands) (saved_lines a.saved) (end_line a.run.status (length a.ticks) ∷ []) ([] ∷ []))
 
-pub whole_exact : (bytes : List ℕ) (a : LedgerAccount) → ledger_of bytes ≡ Ok a → IsLedgerOf bytes a
+-- bytes are the text of an account in the form that their first line says
+pub record IsTextOf (bytes : List ℕ) (a : LedgerAccount) : Type 0 where
+  pub form : ℕ
+  pub place : LedgerPlace
+  pub head_is : one_line (said head) (ledger_start bytes) ≡ Ok (form, place)
+  pub least : 1 ≤ form
+  pub most : form ≤ 2
+  pub text : bytes ≡ ledger_text form a
+
+pub whole_exact : (bytes : List ℕ) (a : LedgerAccount) → ledger_of bytes ≡ Ok a → IsTextOf bytes a
 unfolding ledger_of ledger
 whole_exact bytes a h =
     let p = ledger_start bytes in
@@ -376,4 +384,11 @@ whole_exact bytes a h =
     let is = head_line_is line.line k.x line.says in
     let all : split 10 bytes ≡ head_line k.x ∷ (play_line a.run ∷ entries_on k.x a) =
     line.parts ∙ ap (λ l. l ∷ k.place.left) is.0 ∙ ap (λ r. head_line k.x ∷ r) (play_exact k.x k.place v.0 a k.behind) in
-    (k.x, is.1, is.2, text_is k.x a bytes (all ∙ lines_are k.x a))
+    record {
+      form = k.x;
+      place = k.place;
+      head_is = k.first;
+      least = is.1;
+      most = is.2;
+      text = text_is k.x a bytes (all ∙ lines_are k.x a);
+    }

@@ -3,6 +3,7 @@ use Rattle.std.proofs.Common.{◌≡◌, ℕ, suc, ◌+◌, ◌<◌, ◌≤◌, 
 use Rattle.std.specs.List.{list_all, prefix_len}
 use Rattle.std.proofs.lemmas.Bool.{and_parts, not-true, ne_eqb}
 use Rattle.std.proofs.lemmas.List.{take_at, drop_at}
+use Rattle.std.proofs.lemmas.List.Concat.{flat_map-append}
 use Rattle.ft_text.specs.Texts.{spaced}
 use Rattle.ft_text.specs.Reading.{LinePlace, Reading, give, follow, ◌>>=◌, beyond, behind_spaces, first_word, spaces, word_length, next_word, is_over, or_wrong, word}
 
@@ -157,3 +158,34 @@ pub both_taken : {A B : Type 0} (first : Reading A) (next : A → Reading B) {x 
     → Takes first x (32 ∷ w) a → TakesWords (next x) y ws b → TakesWords (first >>= next) y (w ∷ ws) (a + b)
 both_taken first next {x} {y} {w} {ws} {a} {b} one others =
     record { taken = taken_in_turn first next x y w ws a b one others.taken }
+
+-- what is taken, seen as another value
+pub made_of : {A B : Type 0} (f : A → B) {reading : Reading A} {x : A} {ws : List (List ℕ)} {most : ℕ}
+    → TakesWords reading x ws most → TakesWords (reading >>= (λ y. give (f y))) (f x) ws most
+made_of f {reading} {x} {ws} {most} words = record {
+  taken = record {
+    reads = λ at rest end.
+        let p = words.taken.reads at rest end in
+        (p.0, ap (follow (λ y. give (f y))) p.1);
+    short = words.taken.short;
+  };
+}
+
+-- words, and then others
+pub words_in_turn : {A B : Type 0} (first : Reading A) (next : A → Reading B) {x : A} {y : B} {ws vs : List (List ℕ)} {a b : ℕ}
+    → TakesWords first x ws a → TakesWords (next x) y vs b → TakesWords (first >>= next) y (ws ++ vs) (a + b)
+words_in_turn first next {x} {y} {ws} {vs} {a} {b} one others =
+    let apart : spaced (ws ++ vs) ≡ spaced ws ++ spaced vs = flat_map-append (λ w. 32 ∷ w) ws vs in
+    record {
+      taken = record {
+        reads = λ at rest end.
+            let p = one.taken.reads at (spaced vs ++ rest) (still_ends vs rest end) in
+            let q = others.taken.reads p.0 rest end in (
+              q.0,
+              ap (λ text. follow next (first (place at (text ++ rest)))) apart
+                  ∙ (ap (λ left. follow next (first (place at left))) (append_assoc (spaced ws) (spaced vs) rest)
+                  ∙ (ap (follow next) p.1 ∙ q.1)),
+            );
+        short = omega (arith, ap length apart, length-append (spaced ws) (spaced vs), one.taken.short, others.taken.short);
+      };
+    }

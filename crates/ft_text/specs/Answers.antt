@@ -27,3 +27,8 @@ abbrev pub NoneExactly : {X : Type 0} → Type 0 → Result (Option X) LineFault
 NoneExactly P (Ok None) = P
 NoneExactly P (Ok (Some x)) = P → ⊥
 NoneExactly P (Err fault) = P → ⊥
+
+-- out of memory is answered only of a line that is read: not of one that is too long or says nothing
+abbrev pub IsKnown : LineFault → Result (Option LinePlace) ℕ → Type 0
+IsKnown (Bad at) beginning = Unit {0}
+IsKnown NoMemory beginning = (p : LinePlace) × (beginning ≡ Ok (Some p))

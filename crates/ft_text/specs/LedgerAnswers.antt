@@ -4,7 +4,9 @@ use Rattle.std.specs.List.{slice_split}
 use Rattle.ft_types.specs.declared.edit.Edit.{Edit}
 use Rattle.ft_text.specs.declared.record.LedgerFault.{LedgerFault}
 use Rattle.ft_text.specs.declared.record.LedgerFault.TheVariants.{Line, NoMemory}
-use Rattle.ft_text.specs.LedgerReading.{LedgerPlace}
+use Rattle.ft_text.specs.declared.record.Run.{Run}
+use Rattle.ft_text.specs.LedgerWords.{said, head, play}
+use Rattle.ft_text.specs.LedgerReading.{LedgerPlace, one_line}
 
 -- the parts that are left of bytes, where something is left
 abbrev pub parts_left : ℕ → Option (List ℕ) → List (List ℕ)
@@ -48,3 +50,9 @@ abbrev pub LedgerReads : {X A : Type 0} → (X → A) → Result X LedgerFault �
     → Type 0
 LedgerReads view (Ok x) next read = read ≡ Ok (view x, next)
 LedgerReads view (Err fault) next read = LedgerFails fault read
+
+-- out of memory is answered only of bytes whose first two lines are right
+abbrev pub HasFront : LedgerFault → LedgerPlace → Type 0
+HasFront (Line n) p = Unit {0}
+HasFront NoMemory p = (form : ℕ) × (q : LedgerPlace) × (run : Run) × (r : LedgerPlace)
+    × (one_line (said head) p ≡ Ok (form, q)) × (one_line (said play) q ≡ Ok (run, r))

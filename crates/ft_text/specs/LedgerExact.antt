@@ -1,13 +1,14 @@
 -- What is read as a ledger is one, and what isn't is none.
-use Rattle.std.specs.Prelude.{◌≡◌, ◌≢◌, ℕ, ◌+◌, ◌<◌, ◌≤◌, List, ◌++◌, length, All, Ok, Err}
+use Rattle.std.specs.Prelude.{◌≡◌, ◌≢◌, ◌⊎◌, ℕ, ◌+◌, ◌<◌, List, ◌++◌, length, All, Ok, Err}
 use Rattle.ft_text.specs.Record.{LedgerAccount, IsTellable}
 use Rattle.ft_text.specs.Ledger.{joined_lines, ledger_text}
 use Rattle.ft_text.specs.LedgerReading.{ledger_of}
 use Rattle.ft_text.specs.LedgerBack.{AccountHasRanges, IsOld}
 
--- the ledger of an account, of form 1 or 2
+-- the ledger of an account in form 2, or in form 1 where that can write it
 abbrev pub IsLedgerOf : List ℕ → LedgerAccount → Type 0
-IsLedgerOf bytes account = (form : ℕ) × (1 ≤ form) × (form ≤ 2) × (bytes ≡ ledger_text form account)
+IsLedgerOf bytes account = (bytes ≡ ledger_text 2 account)
+    ⊎ (IsOld account × (bytes ≡ ledger_text 1 account))
 
 -- nothing else is read
 abbrev pub ReadIsWritten : Type 0

@@ -5,7 +5,6 @@ pub mod Values
 pub mod Edits
 pub mod Lines
 pub mod Answers
-pub mod Kinds
 pub mod ReadBack
 pub mod Record
 pub mod Ledger

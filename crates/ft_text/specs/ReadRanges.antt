@@ -3,16 +3,17 @@ use Rattle.std.specs.Prelude.{◌≡◌, ℕ, ◌+◌, ◌^◌, ◌<◌, ◌≤�
 use Rattle.std.specs.List.{All}
 use Rattle.ft_types.specs.declared.edit.Edit.{Edit}
 use Rattle.ft_types.specs.Edits.{IsGivable}
+use Rattle.ft_types.specs.EditParts.{EditHasRanges}
 use Rattle.ft_text.specs.Texts.{batch_text}
 use Rattle.ft_text.specs.Lines.{line_of}
-use Rattle.ft_text.specs.ReadBack.{HasRanges, IsReadBack}
+use Rattle.ft_text.specs.ReadBack.{IsReadBack}
 
 -- a time or none, and 1 to that many edits whose values are in the ranges of their types
 pub record IsLineInRange (most : ℕ) (at : Option ℕ) (edits : List Edit) : Type 0 where
   pub time : IfSome at (λ t. t < 2 ^ 32)
   pub some : 1 ≤ length edits
   pub few : length edits ≤ most
-  pub ranges : All HasRanges edits
+  pub ranges : All EditHasRanges edits
   pub givable : All IsGivable edits
 
 -- what a line says is in range

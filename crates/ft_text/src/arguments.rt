@@ -2,38 +2,26 @@
 
 ghost use Rattle.std.specs.Prelude.{◌≤◌, length, IfOk};
 ghost use Rattle.ft_text.specs.Answers.{Reads};
-ghost use Rattle.ft_text.specs.Edits.{u8, u16, u32, i8, i16, name_20, name_22, frames_argument};
+ghost use Rattle.ft_text.specs.Reading.{word};
+ghost use Rattle.ft_text.specs.Edits.{u32, number_word, name_20, name_22, frames_argument};
 
 use crate::bytes::{frames, name};
 use crate::cursor::Cursor;
 use crate::fault::LineFault;
-use crate::numbers::{number, signed};
-use ft_types::Frames;
+use crate::numbers::{number, typed};
+use ft_types::{Frames, NumberType};
 use std::alloc::Global;
 
 impl<'a> Cursor<'a> {
-    /// A number of at most 255.
-    #[tactic(auto, unfolding(crate::specs::Edits::u8))]
-    pub fn u8(&mut self) -> Result<u8, LineFault>
-        ensures { Reads (λ n. n) result self.new (u8 self.old) }
+    /// A number of a type.
+    pub fn number(&mut self, number_type: NumberType) -> Result<i64, LineFault>
+        ensures { Reads (λ n. n) result self.new (word (number_word number_type) self.old) }
     {
         let word = self.word()?;
-        let Some(n) = number(word.bytes, 255) else {
+        let Some(n) = typed(word.bytes, number_type) else {
             return Err(LineFault::Bad { at: word.at });
         };
-        Ok(n as u8)
-    }
-
-    /// A number of at most 65,535.
-    #[tactic(auto, unfolding(crate::specs::Edits::u16))]
-    pub fn u16(&mut self) -> Result<u16, LineFault>
-        ensures { Reads (λ n. n) result self.new (u16 self.old) }
-    {
-        let word = self.word()?;
-        let Some(n) = number(word.bytes, 65_535) else {
-            return Err(LineFault::Bad { at: word.at });
-        };
-        Ok(n as u16)
+        Ok(n)
     }
 
     /// A number of at most 4,294,967,295.
@@ -46,30 +34,6 @@ impl<'a> Cursor<'a> {
             return Err(LineFault::Bad { at: word.at });
         };
         Ok(n)
-    }
-
-    /// A number from -128 to 127.
-    #[tactic(auto, unfolding(crate::specs::Edits::i8))]
-    pub fn i8(&mut self) -> Result<i8, LineFault>
-        ensures { Reads (λ n. n) result self.new (i8 self.old) }
-    {
-        let word = self.word()?;
-        let Some(n) = signed(word.bytes, 127) else {
-            return Err(LineFault::Bad { at: word.at });
-        };
-        Ok(n as i8)
-    }
-
-    /// A number from -32,768 to 32,767.
-    #[tactic(auto, unfolding(crate::specs::Edits::i16))]
-    pub fn i16(&mut self) -> Result<i16, LineFault>
-        ensures { Reads (λ n. n) result self.new (i16 self.old) }
-    {
-        let word = self.word()?;
-        let Some(n) = signed(word.bytes, 32_767) else {
-            return Err(LineFault::Bad { at: word.at });
-        };
-        Ok(n as i16)
     }
 
     /// A name of 1 to 20 bytes; those that aren't given are 0.

@@ -1,10 +1,10 @@
 //! A ledger, read.
 
-ghost use Rattle.std.specs.Prelude.{◌≡◌, ◌+◌, [], suc, All, IfOk, OnOk, MatchResult, Ok};
+ghost use Rattle.std.specs.Prelude.{◌≡◌, ◌≢◌, ◌+◌, [], suc, All, IfOk, IfErr, OnOk, MatchResult, Ok, Err};
 ghost use Rattle.ft_text.specs.Record.{ledger_account, Ascend, CanBeEntered, CanBeRefused, HasHandCause, IsEndStatus, IsTellable};
 ghost use Rattle.ft_text.specs.LedgerWords.{said, head, play, entry, refusal, tick, hand, saved, end};
-ghost use Rattle.ft_text.specs.LedgerReading.{one_line, many, lines_of, maybe_line, ledger_of};
-ghost use Rattle.ft_text.specs.LedgerAnswers.{LedgerReads, LedgerFails};
+ghost use Rattle.ft_text.specs.LedgerReading.{one_line, many, lines_of, maybe_line, ledger_start, ledger_of};
+ghost use Rattle.ft_text.specs.LedgerAnswers.{LedgerReads, LedgerFails, HasFront};
 
 use crate::ledger_batches::{entry_of, refusal_of};
 use crate::ledger_places::Lines;
@@ -16,7 +16,8 @@ use std::alloc::Global;
 /// The first line: which form it is.
 #[tactic(auto, unfolding(crate::specs::LedgerReading::one_line))]
 fn head(lines: &mut Lines) -> Result<u8, LedgerFault>
-    ensures { LedgerReads (λ form. form) result lines.new (one_line (said head) lines.old) }
+    ensures value { LedgerReads (λ form. form) result lines.new (one_line (said head) lines.old) }
+    ensures memory { result ≢ Err LedgerFault.NoMemory }
 {
     let Some((line, next)) = lines.ahead() else {
         return Err(lines.wrong());
@@ -31,7 +32,8 @@ fn head(lines: &mut Lines) -> Result<u8, LedgerFault>
 /// The second line: what was asked for.
 #[tactic(auto, unfolding(crate::specs::LedgerReading::one_line))]
 fn play(lines: &mut Lines) -> Result<Run, LedgerFault>
-    ensures { LedgerReads (λ run. run) result lines.new (one_line (said play) lines.old) }
+    ensures value { LedgerReads (λ run. run) result lines.new (one_line (said play) lines.old) }
+    ensures memory { result ≢ Err LedgerFault.NoMemory }
 {
     let Some((line, next)) = lines.ahead() else {
         return Err(lines.wrong());
@@ -163,14 +165,15 @@ fn end(form: u8, ticks: usize, lines: &mut Lines) -> Result<u8, LedgerFault>
 /// Reads a ledger of form 1 or 2, as docs/TEXTS.md says, "Ledgers".
 ///
 /// `Line` comes exactly where the bytes are no ledger, with the first line that can't be there; the
-/// other fault is running out of memory.
-#[tactic(auto, unfolding(crate::specs::LedgerReading::ledger_of, crate::specs::LedgerReading::ledger, crate::specs::LedgerReading::over))]
+/// other fault is out of memory, and comes only of bytes whose first two lines are right.
+#[tactic(auto, using(crate::proofs::Fronts::front_known, crate::proofs::Fronts::line_known), unfolding(crate::specs::LedgerReading::ledger_of, crate::specs::LedgerReading::ledger, crate::specs::LedgerReading::over))]
 pub fn read_ledger(alloc: Global, bytes: &[u8]) -> Result<Record, LedgerFault>
     ensures read { MatchResult result
         (λ r. ledger_of bytes.now ≡ Ok (ledger_account r.run r.journal r.ticks r.hands r.saved))
         (λ fault. LedgerFails fault (ledger_of bytes.now)) }
     ensures tellable { IfOk result (λ r.
         IsTellable (ledger_account r.run r.journal r.ticks r.hands r.saved)) }
+    ensures memory { IfErr result (λ fault. HasFront fault (ledger_start bytes.now)) }
 {
     let mut lines = Lines::new(bytes);
     let form = head(&mut lines)?;

@@ -3,6 +3,9 @@
 ghost use Rattle.std.specs.Prelude.{◌≡◌, ◌≢◌, ◌∷◌, ◌<◌, ◌≤◌, slice_index, IfSome, IfNone, IsTrue};
 ghost use Rattle.std.specs.Str.Parse.{AllDigits, digits_value};
 ghost use Rattle.ft_text.specs.Values.{number_of, signed_of, is_within};
+ghost use Rattle.ft_text.specs.Edits.{natural_word, number_word};
+
+use ft_types::NumberType;
 
 /// The value of decimal digits, unless there is another byte or it is over `most`.
 fn value_of(digits: &[u8], most: u32) -> Option<u32>
@@ -66,4 +69,33 @@ pub fn signed(word: &[u8], most: u16) -> Option<i32>
         return from_zero(word, most);
     }
     below_zero(&word[1..], most)
+}
+
+/// A number from 0 to `most`.
+fn natural(word: &[u8], most: u32) -> Option<i64>
+    ensures { result ≡ natural_word most word.now }
+{
+    let n = number(word, most)?;
+    Some(i64::from(n))
+}
+
+/// A number from `-most - 1` to `most`.
+fn wide(word: &[u8], most: u16) -> Option<i64>
+    ensures { result ≡ signed_of most word.now }
+{
+    let n = signed(word, most)?;
+    Some(i64::from(n))
+}
+
+/// A number of a type.
+pub fn typed(word: &[u8], number_type: NumberType) -> Option<i64>
+    ensures { result ≡ number_word number_type word.now }
+{
+    match number_type {
+        NumberType::U8 => natural(word, 255),
+        NumberType::U16 => natural(word, 65_535),
+        NumberType::U32 => natural(word, u32::MAX),
+        NumberType::I8 => wide(word, 127),
+        NumberType::I16 => wide(word, 32_767),
+    }
 }

@@ -1,77 +1,122 @@
 //! Lines of scripts, read.
 
-ghost use Rattle.std.specs.Prelude.{◌≡◌, ◌<◌, [], ◌∷◌, ◌++◌, length, OnOk, IfOk, IfErr, IfSome};
+ghost use Rattle.std.specs.Prelude.{◌≡◌, ◌≢◌, ◌+◌, ◌<◌, ◌≤◌, [], ◌∷◌, ◌++◌, length, OnOk, IfOk, IfErr, IfSome, Err};
 ghost use Rattle.std.specs.List.{All};
 ghost use Rattle.ft_types.specs.Edits.{IsGivable};
-ghost use Rattle.ft_text.specs.Answers.{Reads, Tells, NoneExactly};
-ghost use Rattle.ft_text.specs.Edits.{edit_reading};
-ghost use Rattle.ft_text.specs.Kinds.{reading_of};
+ghost use Rattle.ft_types.specs.EditParts.{edit_of};
+ghost use Rattle.ft_text.specs.Answers.{Reads, Tells, NoneExactly, IsKnown};
+ghost use Rattle.ft_text.specs.Edits.{one_number, numbers_reading, closed_reading, kind_reading, edit_reading};
 ghost use Rattle.ft_text.specs.Lines.{time_reading, timed_reading, another_reading, others_reading, edits_reading, begins_with_hash, beginning, line_of, edits_behind, IsSkipped};
 
 use crate::cursor::{Cursor, MOST_BYTES};
 use crate::fault::LineFault;
-use crate::kind::{Kind, kind_of};
 use crate::timed::{Timed, TimedBatch};
-use crate::{instruments, patterns, samples, song};
-use ft_types::{Batch, BatchFault, Edit, MOST_EDITS};
+use arrayvec::ArrayVec;
+use ft_types::{Batch, BatchFault, Edit, EditKind, EditParts, LastType, MOST_EDITS, NumberType};
 use std::alloc::Global;
 
-/// The arguments of an edit.
-#[tactic(auto, unfolding(crate::specs::Edits::delpat_reading, crate::specs::Edits::newins_reading))]
-fn edit_of(alloc: Global, line: &mut Cursor, kind: Kind) -> Result<Edit, LineFault>
-    ensures value { Reads (λ edit. edit) result line.new (reading_of kind line.old) }
-    ensures givable { IfOk result IsGivable }
+/// Reads one more number, behind fewer than 11.
+fn one_number(
+    line: &mut Cursor,
+    number_type: NumberType,
+    numbers: &mut ArrayVec<i64, 11>,
+) -> Result<(), LineFault>
+    requires { length numbers.old.items < 11 }
+    ensures read { Reads (λ _. numbers.new.items) result line.new
+        (one_number numbers.old.items number_type line.old) }
+    ensures count { OnOk result (length numbers.new.items ≡ length numbers.old.items + 1) }
 {
-    match kind {
-        Kind::Cell => patterns::cell(line),
-        Kind::Rows => patterns::rows(line),
-        Kind::Insrow => patterns::insrow(line),
-        Kind::Delrow => patterns::delrow(line),
-        Kind::Clear => patterns::clear(line),
-        Kind::Transpose => patterns::transpose(line),
-        Kind::Copy => patterns::copy(line),
-        Kind::Order => song::order(line),
-        Kind::Insorder => song::insorder(line),
-        Kind::Delorder => song::delorder(line),
-        Kind::Restart => song::restart(line),
-        Kind::Tempo => song::tempo(line),
-        Kind::Bpm => song::bpm(line),
-        Kind::Title => song::title(alloc, line),
-        Kind::Newpat => song::newpat(line),
-        Kind::Delpat => Ok(Edit::Delpat),
-        Kind::Newins => Ok(Edit::Newins),
-        Kind::Clearins => instruments::clearins(line),
-        Kind::Insname => instruments::insname(alloc, line),
-        Kind::Map => instruments::map(line),
-        Kind::Env => instruments::env(line),
-        Kind::Point => instruments::point(line),
-        Kind::Vib => instruments::vib(line),
-        Kind::Fade => instruments::fade(line),
-        Kind::Newsmp => samples::newsmp(line),
-        Kind::Delsmp => samples::delsmp(line),
-        Kind::Smpname => samples::smpname(alloc, line),
-        Kind::Smp => samples::smp(line),
-        Kind::Loop => samples::loop_(line),
-        Kind::Cut => samples::cut(line),
-        Kind::Paste => samples::paste(alloc, line),
-        Kind::Reverse => samples::reverse(line),
-        Kind::Scale => samples::scale(line),
-        Kind::Bits => samples::bits(line),
+    let n = line.number(number_type)?;
+    numbers.push(n);
+    Ok(())
+}
+
+/// Numbers of these types, in order.
+fn numbers(line: &mut Cursor, types: &[NumberType]) -> Result<ArrayVec<i64, 11>, LineFault>
+    requires { length types.now ≤ 11 }
+    ensures { Reads (λ numbers. numbers.items) result line.new (numbers_reading types.now line.old) }
+{
+    let mut numbers = ArrayVec::new();
+    for number_type in types {
+        one_number(line, *number_type, &mut numbers)?;
     }
+    Ok(numbers)
+}
+
+/// The edit of these parts.
+fn made(
+    alloc: Global,
+    kind: EditKind,
+    numbers: ArrayVec<i64, 11>,
+    name: &[u8],
+    frames: &[i16],
+) -> Result<Edit, LineFault>
+    ensures edit { IfOk result (λ edit. edit ≡ edit_of (record {
+      kind = kind;
+      numbers = numbers.items;
+      name = name.now;
+      frames = frames.now;
+    })) }
+    ensures memory { IfErr result (λ fault. fault ≡ LineFault.NoMemory) }
+{
+    let parts = EditParts {
+        kind,
+        numbers,
+        name,
+        frames,
+    };
+    let edit = Edit::from_parts(alloc, &parts)?;
+    Ok(edit)
+}
+
+/// An edit of a kind and with these numbers, behind them.
+fn closed(
+    alloc: Global,
+    line: &mut Cursor,
+    kind: EditKind,
+    last: LastType,
+    numbers: ArrayVec<i64, 11>,
+) -> Result<Edit, LineFault>
+    ensures { Reads (λ edit. edit) result line.new
+        (closed_reading kind last numbers.items line.old) }
+{
+    match last {
+        LastType::Nothing => made(alloc, kind, numbers, &[], &[]),
+        LastType::Title => {
+            let name = line.name_20(alloc)?;
+            made(alloc, kind, numbers, &name, &[])
+        }
+        LastType::Name => {
+            let name = line.name_22(alloc)?;
+            made(alloc, kind, numbers, &name, &[])
+        }
+        LastType::Frames => {
+            let frames = line.frames(alloc)?;
+            made(alloc, kind, numbers, &[], frames.as_slice())
+        }
+    }
+}
+
+/// The arguments of an edit.
+#[tactic(auto, unfolding(crate::specs::Edits::kind_reading))]
+fn edit_behind(alloc: Global, line: &mut Cursor, kind: EditKind) -> Result<Edit, LineFault>
+    ensures { Reads (λ edit. edit) result line.new (kind_reading kind line.old) }
+{
+    let numbers = numbers(line, kind.numbers())?;
+    closed(alloc, line, kind, kind.last(), numbers)
 }
 
 /// An edit: its name, and then its arguments.
 #[inline(always)]
-#[tactic(auto, unfolding(crate::specs::Edits::edit_reading))]
+#[tactic(auto, unfolding(crate::specs::Edits::edit_reading), using(crate::proofs::KindNames::reading_named))]
 fn edit(alloc: Global, line: &mut Cursor) -> Result<Edit, LineFault>
-    ensures value { Reads (λ edit. edit) result line.new (edit_reading line.old) }
-    ensures givable { IfOk result IsGivable }
+    ensures { Reads (λ edit. edit) result line.new (edit_reading line.old) }
 {
     let word = line.word()?;
-    let Some(kind) = kind_of(word.bytes) else {
+    let Some(kind) = EditKind::named(word.bytes) else {
         return Err(LineFault::Bad { at: word.at });
     };
-    edit_of(alloc, line, kind)
+    edit_behind(alloc, line, kind)
 }
 
 /// A time behind `at`, or none.
@@ -89,9 +134,8 @@ fn time(line: &mut Cursor) -> Result<Option<u32>, LineFault>
 /// A time or none, an edit, and nothing more.
 #[tactic(auto, unfolding(crate::specs::Lines::timed_reading, crate::specs::Lines::edits_reading))]
 fn timed_edit(alloc: Global, line: &mut Cursor) -> Result<Timed, LineFault>
-    ensures value { Reads (λ timed. (timed.at, timed.edit ∷ [])) result line.new
+    ensures { Reads (λ timed. (timed.at, timed.edit ∷ [])) result line.new
         (timed_reading 0 line.old) }
-    ensures givable { IfOk result (λ timed. IsGivable timed.edit) }
 {
     let at = time(line)?;
     let edit = edit(alloc, line)?;
@@ -115,8 +159,7 @@ fn push(batch: &mut Batch, edit: Edit) -> Result<(), LineFault>
 /// Another edit, behind a `;`.
 #[tactic(auto, unfolding(crate::specs::Lines::another_reading))]
 fn another(alloc: Global, line: &mut Cursor) -> Result<Edit, LineFault>
-    ensures value { Reads (λ edit. edit) result line.new (another_reading line.old) }
-    ensures givable { IfOk result IsGivable }
+    ensures { Reads (λ edit. edit) result line.new (another_reading line.old) }
 {
     line.this(b";")?;
     edit(alloc, line)
@@ -124,11 +167,9 @@ fn another(alloc: Global, line: &mut Cursor) -> Result<Edit, LineFault>
 
 /// Puts the other edits of a line behind the first, each behind a `;`.
 fn others(alloc: Global, line: &mut Cursor, batch: &mut Batch) -> Result<(), LineFault>
-    requires one { length batch.old ≡ 1 }
-    requires given { All IsGivable batch.old }
-    ensures value { Reads (λ _. batch.new) result line.new
+    requires { length batch.old ≡ 1 }
+    ensures { Reads (λ _. batch.new) result line.new
         (edits_behind batch.old (others_reading 15) line.old) }
-    ensures givable { OnOk result (All IsGivable batch.new) }
 {
     for _ in 1..MOST_EDITS {
         if line.is_over() {
@@ -143,8 +184,7 @@ fn others(alloc: Global, line: &mut Cursor, batch: &mut Batch) -> Result<(), Lin
 /// An edit, and at most 15 more.
 #[tactic(auto, unfolding(crate::specs::Lines::edits_reading))]
 fn batch(alloc: Global, line: &mut Cursor) -> Result<Batch, LineFault>
-    ensures value { Reads (λ batch. batch) result line.new (edits_reading 15 line.old) }
-    ensures givable { IfOk result (All IsGivable) }
+    ensures { Reads (λ batch. batch) result line.new (edits_reading 15 line.old) }
 {
     let first = edit(alloc, line)?;
     let mut batch = Batch::one(alloc, first)?;
@@ -155,9 +195,8 @@ fn batch(alloc: Global, line: &mut Cursor) -> Result<Batch, LineFault>
 /// A time or none, and edits.
 #[tactic(auto, unfolding(crate::specs::Lines::timed_reading))]
 fn timed_batch(alloc: Global, line: &mut Cursor) -> Result<TimedBatch, LineFault>
-    ensures value { Reads (λ timed. (timed.at, timed.batch)) result line.new
+    ensures { Reads (λ timed. (timed.at, timed.batch)) result line.new
         (timed_reading 15 line.old) }
-    ensures givable { IfOk result (λ timed. All IsGivable timed.batch) }
 {
     let at = time(line)?;
     let batch = batch(alloc, line)?;
@@ -176,6 +215,7 @@ fn is_comment(line: &[u8]) -> bool
 fn begin(line: &[u8]) -> Result<Option<Cursor>, LineFault>
     ensures value { Tells (λ cursor. cursor) result (beginning line.now) }
     ensures none { NoneExactly (IsSkipped line.now) result }
+    ensures memory { result ≢ Err LineFault.NoMemory }
 {
     if line.len() > MOST_BYTES {
         return Err(LineFault::Bad { at: 4096 });
@@ -190,14 +230,12 @@ fn begin(line: &[u8]) -> Result<Option<Cursor>, LineFault>
     Ok(Some(cursor))
 }
 
-/// The edit of a line without its end. None where the line is blank or a comment.
-///
-/// `Bad` comes exactly where the line is none of a script, with the place that `docs/TEXTS.md`
-/// gives; the other fault is running out of memory.
-pub fn read_edit(alloc: Global, line: &[u8]) -> Result<Option<Timed>, LineFault>
+/// What `read_edit` answers.
+#[tactic(auto, using(crate::proofs::Givable::known_start, crate::proofs::Givable::known_fault))]
+fn one_edit(alloc: Global, line: &[u8]) -> Result<Option<Timed>, LineFault>
     ensures value { Tells (λ timed. (timed.at, timed.edit ∷ [])) result (line_of 0 line.now) }
     ensures none { NoneExactly (IsSkipped line.now) result }
-    ensures givable { IfOk result (λ timed. IfSome timed (λ t. IsGivable t.edit)) }
+    ensures memory { IfErr result (λ fault. IsKnown fault (beginning line.now)) }
 {
     let Some(mut cursor) = begin(line)? else {
         return Ok(None);
@@ -206,19 +244,47 @@ pub fn read_edit(alloc: Global, line: &[u8]) -> Result<Option<Timed>, LineFault>
     Ok(Some(timed))
 }
 
-/// The batch of a line without its end: 1 to 16 edits with `;` between two of them. None where the
-/// line is blank or a comment.
-///
-/// `Bad` comes exactly where the line is none of a script, with the place that `docs/TEXTS.md`
-/// gives; the other fault is running out of memory.
-pub fn read_batch(alloc: Global, line: &[u8]) -> Result<Option<TimedBatch>, LineFault>
+/// What `read_batch` answers.
+#[tactic(auto, using(crate::proofs::Givable::known_start, crate::proofs::Givable::known_fault))]
+fn one_batch(alloc: Global, line: &[u8]) -> Result<Option<TimedBatch>, LineFault>
     ensures value { Tells (λ timed. (timed.at, timed.batch)) result (line_of 15 line.now) }
     ensures none { NoneExactly (IsSkipped line.now) result }
-    ensures givable { IfOk result (λ timed. IfSome timed (λ t. All IsGivable t.batch)) }
+    ensures memory { IfErr result (λ fault. IsKnown fault (beginning line.now)) }
 {
     let Some(mut cursor) = begin(line)? else {
         return Ok(None);
     };
     let timed = timed_batch(alloc, &mut cursor)?;
     Ok(Some(timed))
+}
+
+/// The edit of a line without its end. None where the line is blank or a comment.
+///
+/// `Bad` comes exactly where the line is none of a script, with the place that `docs/TEXTS.md`
+/// gives; the other fault is out of memory, and comes only of a
+/// line that is neither too long nor blank nor a comment.
+#[tactic(auto, using(crate::proofs::Givable::edit_is_givable))]
+pub fn read_edit(alloc: Global, line: &[u8]) -> Result<Option<Timed>, LineFault>
+    ensures value { Tells (λ timed. (timed.at, timed.edit ∷ [])) result (line_of 0 line.now) }
+    ensures none { NoneExactly (IsSkipped line.now) result }
+    ensures givable { IfOk result (λ timed. IfSome timed (λ t. IsGivable t.edit)) }
+    ensures memory { IfErr result (λ fault. IsKnown fault (beginning line.now)) }
+{
+    one_edit(alloc, line)
+}
+
+/// The batch of a line without its end: 1 to 16 edits with `;` between two of them. None where the
+/// line is blank or a comment.
+///
+/// `Bad` comes exactly where the line is none of a script, with the place that `docs/TEXTS.md`
+/// gives; the other fault is out of memory, and comes only of a
+/// line that is neither too long nor blank nor a comment.
+#[tactic(auto, using(crate::proofs::Givable::batch_is_givable))]
+pub fn read_batch(alloc: Global, line: &[u8]) -> Result<Option<TimedBatch>, LineFault>
+    ensures value { Tells (λ timed. (timed.at, timed.batch)) result (line_of 15 line.now) }
+    ensures none { NoneExactly (IsSkipped line.now) result }
+    ensures givable { IfOk result (λ timed. IfSome timed (λ t. All IsGivable t.batch)) }
+    ensures memory { IfErr result (λ fault. IsKnown fault (beginning line.now)) }
+{
+    one_batch(alloc, line)
 }
