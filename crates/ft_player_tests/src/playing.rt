@@ -10,10 +10,9 @@ use ft_player::Player;
 use ft_shared::Shared;
 use ft_songs::{instrument_of, one_note_module, sample_of, silent_module};
 use ft_types::{Items, Module, Steps, TickReport, valid};
-use std::alloc::Global;
+use std::alloc::{AllocError, Global};
 use std::marker::Brand;
 use std::sync::ledger::{Blank, Ledger};
-use std::test::Fail;
 
 /// Ticks of 167 frames on two channels: by the general bound, and where no voice has a loop and
 /// none passes more than a frame at once.
@@ -34,26 +33,22 @@ fn tick<L: Ledger>(
     player.tick(shared, out, steps)
 }
 
-/// A tick that is wanted: where it is, its frames, and the numbers that its sound begins with; the
-/// rest of it is silent.
-struct Wanted {
-    row: u16,
-    tick: u16,
-    frames: u32,
-    sound: &'static [i16],
-}
+/// A tick that is wanted: its row, its number in the row, its frames, and the numbers that its sound
+/// begins with; the rest of it is silent.
+struct Wanted(u16, u16, u32, &'static [i16]);
 
 /// Whether a tick is the wanted one, on version 0 and order 0.
 fn is_wanted(report: TickReport, out: &[i16; 7502], wanted: &Wanted) -> bool {
     if report.version != 0 || report.order != 0 {
         return false;
     }
-    if report.row != wanted.row || report.tick != wanted.tick || report.frames != wanted.frames {
+    let Wanted(row, tick, frames, sound) = wanted;
+    if report.row != *row || report.tick != *tick || report.frames != *frames {
         return false;
     }
     for (i, &number) in out.iter().enumerate() {
-        let right = match wanted.sound.get(i) {
-            Some(&sound) => sound,
+        let right = match sound.get(i) {
+            Some(&number) => number,
             None => 0,
         };
         if i < 2 * report.frames as usize && number != right {
@@ -154,154 +149,82 @@ fn song_plays(alloc: Global, song: &Module, rate: u32, rows: &[Wanted]) -> bool
     plays_parted::<Brand>(Blank::new(1), &shared, &mut desk, parted, rows)
 }
 
-#[test]
-fn one_note_sounds_in_the_first_tick(rt: HostRuntime) -> Result<(), Fail> {
-    let song = one_note_module(rt.alloc())?;
-    let right = song_plays(
-        rt.alloc(),
-        &song,
-        8_363,
-        &[
-            Wanted {
-                row: 0,
-                tick: 0,
-                frames: 167,
-                sound: &[2048; 8],
-            },
-            Wanted {
-                row: 0,
-                tick: 1,
-                frames: 167,
-                sound: &[],
-            },
-            Wanted {
-                row: 0,
-                tick: 2,
-                frames: 167,
-                sound: &[],
-            },
-            Wanted {
-                row: 0,
-                tick: 3,
-                frames: 168,
-                sound: &[],
-            },
-            Wanted {
-                row: 0,
-                tick: 4,
-                frames: 167,
-                sound: &[],
-            },
-            Wanted {
-                row: 0,
-                tick: 5,
-                frames: 167,
-                sound: &[],
-            },
-            Wanted {
-                row: 1,
-                tick: 0,
-                frames: 167,
-                sound: &[],
-            },
-        ],
-    );
-    assert!(rt; right);
-    Ok(())
+/// A song that is played.
+#[derive(Clone, Copy, Debug)]
+enum Song {
+    /// One note of eight frames.
+    OneNote,
+    /// One note of 400 frames.
+    Long,
+    Silent,
 }
 
-#[test]
-fn a_long_sample_sounds_on(rt: HostRuntime) -> Result<(), Fail> {
-    let mut song = one_note_module(rt.alloc())?;
-    let sample = sample_of(rt.alloc(), &[64; 400])?;
-    song.instruments = Items::from_vec(vec![in rt.alloc(); instrument_of(rt.alloc(), sample)?]?);
-    let right = song_plays(
-        rt.alloc(),
-        &song,
-        8_363,
-        &[
-            Wanted {
-                row: 0,
-                tick: 0,
-                frames: 167,
-                sound: &[2048; 334],
-            },
-            Wanted {
-                row: 0,
-                tick: 1,
-                frames: 167,
-                sound: &[2048; 334],
-            },
-            Wanted {
-                row: 0,
-                tick: 2,
-                frames: 167,
-                sound: &[2048; 132],
-            },
-            Wanted {
-                row: 0,
-                tick: 3,
-                frames: 168,
-                sound: &[],
-            },
-        ],
-    );
-    assert!(rt; right);
-    Ok(())
+/// The song itself.
+fn song_of(alloc: Global, song: Song) -> Result<Module, AllocError> {
+    let mut made = match song {
+        Song::Silent => return silent_module(alloc),
+        Song::OneNote => return one_note_module(alloc),
+        Song::Long => one_note_module(alloc)?,
+    };
+    let sample = sample_of(alloc, &[64; 400])?;
+    made.instruments = Items::from_vec(vec![in alloc; instrument_of(alloc, sample)?]?);
+    Ok(made)
 }
 
-#[test]
-fn silence_goes_on_from_row_to_row(rt: HostRuntime) -> Result<(), Fail> {
-    let song = silent_module(rt.alloc())?;
-    let right = song_plays(
-        rt.alloc(),
-        &song,
+/// Songs, the rates at which they are played, and their first ticks.
+static ROWS: [(Song, u32, &[Wanted]); 3] = [
+    (
+        Song::OneNote,
+        8_363,
+        &[
+            Wanted(0, 0, 167, &[2048; 8]),
+            Wanted(0, 1, 167, &[]),
+            Wanted(0, 2, 167, &[]),
+            Wanted(0, 3, 168, &[]),
+            Wanted(0, 4, 167, &[]),
+            Wanted(0, 5, 167, &[]),
+            Wanted(1, 0, 167, &[]),
+        ],
+    ),
+    (
+        Song::Long,
+        8_363,
+        &[
+            Wanted(0, 0, 167, &[2048; 334]),
+            Wanted(0, 1, 167, &[2048; 334]),
+            Wanted(0, 2, 167, &[2048; 132]),
+            Wanted(0, 3, 168, &[]),
+        ],
+    ),
+    (
+        Song::Silent,
         8_000,
         &[
-            Wanted {
-                row: 0,
-                tick: 0,
-                frames: 160,
-                sound: &[],
-            },
-            Wanted {
-                row: 0,
-                tick: 1,
-                frames: 160,
-                sound: &[],
-            },
-            Wanted {
-                row: 0,
-                tick: 2,
-                frames: 160,
-                sound: &[],
-            },
-            Wanted {
-                row: 0,
-                tick: 3,
-                frames: 160,
-                sound: &[],
-            },
-            Wanted {
-                row: 0,
-                tick: 4,
-                frames: 160,
-                sound: &[],
-            },
-            Wanted {
-                row: 0,
-                tick: 5,
-                frames: 160,
-                sound: &[],
-            },
-            Wanted {
-                row: 1,
-                tick: 0,
-                frames: 160,
-                sound: &[],
-            },
+            Wanted(0, 0, 160, &[]),
+            Wanted(0, 1, 160, &[]),
+            Wanted(0, 2, 160, &[]),
+            Wanted(0, 3, 160, &[]),
+            Wanted(0, 4, 160, &[]),
+            Wanted(0, 5, 160, &[]),
+            Wanted(1, 0, 160, &[]),
         ],
-    );
-    assert!(rt; right);
-    Ok(())
+    ),
+];
+
+/// Whether a song plays so.
+fn row_plays(alloc: Global, song: Song, rate: u32, ticks: &[Wanted]) -> bool {
+    if rate < 8_000 || rate > 48_000 {
+        return false;
+    }
+    let Ok(song) = song_of(alloc, song) else {
+        return false;
+    };
+    song_plays(alloc, &song, rate, ticks)
+}
+
+#[test]
+fn the_first_ticks_are_those_of_the_song(rt: HostRuntime) {
+    for (song, rate, ticks) in ROWS.iter() {
+        assert!(rt; row_plays(rt.alloc(), *song, *rate, ticks), "{song:?}");
+    }
 }

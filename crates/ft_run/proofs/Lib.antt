@@ -1,7 +1,8 @@
 pub mod Output
 pub mod Pool
 pub mod Songs
-pub mod Underway
-pub mod Only
+pub mod DeskSongs
+pub mod Missing
 pub mod Settled
-mod Measuring
+pub mod TicksPlayed
+pub mod Ending

@@ -1,6 +1,7 @@
 -- The WAV file of a song: its head, and then its sound.
 use Rattle.std.proofs.Common.{ℕ, ◌++◌, List, [], Option, sym, subst, Result, Ok, Err, OnOk, OnErr}
 use Rattle.std.proofs.lemmas.List.{append-nil}
+use Rattle.std.specs.Prelude.{IfOk}
 use Rattle.std.specs.Io.KnownBytes.{Appends}
 use Rattle.ft_outer.specs.Laws.{TakesNothingFirst, TakesPieceNext, TakesFrontLast}
 use Rattle.ft_outer.specs.Pieces.{TakesUpTo, TakesFront}
@@ -28,3 +29,8 @@ on_ok (Err fault) follows known = tt
 pub on_err : {T E P Q : Type 0} (result : Result T E) → (P → Q) → OnErr result P → OnErr result Q
 on_err (Ok value) follows known = tt
 on_err (Err fault) follows known = follows known
+
+pub if_ok : {T E : Type 0} {P Q : T → Type 0} (result : Result T E) → ((value : T) → P value → Q value) → IfOk result P
+    → IfOk result Q
+if_ok (Ok value) follows known = follows value known
+if_ok (Err fault) follows known = tt

@@ -1,20 +1,21 @@
 -- What a run says of its song, wherever it ends.
-use Rattle.std.proofs.Common.{◌≡◌, ◌≢◌, ℕ, ◌+◌, ◌<◌, ◌≤◌, List, [], length, Option, Some, inl, inr, ◌⊎◌, refl, sym, subst, arith}
-use Rattle.std.specs.Prelude.{IfSome, Result, Err}
+use Rattle.std.proofs.Common.{◌≡◌, ◌≢◌, ℕ, ◌+◌, ◌<◌, ◌≤◌, List, [], length, Option, Some, None, inl, inr, ◌⊎◌, refl, sym, subst, arith}
+use Rattle.std.specs.Prelude.{IfErr, IfOk, IfSome, Result, Ok, Err}
+use Rattle.ft_types.specs.Valid.{IsValid}
 use Rattle.ft_types.specs.declared.module.Module.{Module}
 use Rattle.ft_format.specs.Spelling.{Spells}
 use Rattle.ft_outer.specs.Counts.{Rose}
 use Rattle.ft_outer.specs.Pieces.{GivesAll, HasMore}
 use Rattle.ft_xmread.specs.declared.fault.XmFault.{XmFault}
 use Rattle.ft_xmread.specs.declared.fault.XmFault.TheVariants as faults
-use Rattle.ft_xmread.specs.Song.{HasFault, IsFaultOf}
+use Rattle.ft_xmread.specs.Song.{HasFault, IsFaultOf, IsRefusedBy, IsThisSong}
 use Rattle.ft_run.specs.declared.song.TheConstants.{MOST_BYTES}
 use Rattle.ft_run.specs.declared.status.Status.{Status}
 use Rattle.ft_run.specs.declared.status.Status.TheVariants as statuses
 use Rattle.ft_run.specs.declared.status.SongFault.{SongFault}
 use Rattle.ft_run.specs.declared.status.SongFault.TheVariants.{Xm, TooBig}
-use Rattle.ft_run.specs.Songs.{ReadsSong}
-use Rattle.ft_run.specs.Statuses.{IsAccepted, IsAfterReading, IsOfCopy, IsUnread, RefusesSong, refusal_of}
+use Rattle.ft_run.specs.Songs.{IsReadAs, IsSongFile, ReadsSong, ending}
+use Rattle.ft_run.specs.Statuses.{IsAccepted, IsAfterReading, IsOfCopy, IsUnread, RefusesSong, refusal_of, song_or_status}
 
 -- ---- sources
 
@@ -205,3 +206,52 @@ module _ {Source : Type 0} (left : Source → Option (List ℕ)) (given failed :
     accepted = λ file song told spelled. accepted;
     whole = λ _. read.whole tt;
   }
+
+-- ---- all bytes were read
+
+-- what is known of the answer that a song was read by
+abbrev IsFaultKnown : List ℕ → Result Module XmFault → Type 0
+IsFaultKnown bytes read = (fault : XmFault) → HasFault bytes fault → IsRefusedBy read fault
+
+module _ {Source : Type 0} (left : Source → Option (List ℕ)) (given failed : Source → ℕ) (old new : Source)
+    (bytes : List ℕ) (kept : failed new ≡ failed old) (few : given new ≤ given old + MOST_BYTES)
+    (some : given new ≡ given old + length bytes) (all : GivesAll (left old) (left new) bytes) where
+  pub tells : (read : Result Module XmFault) → IfErr read (IsFaultOf bytes) → IsFaultKnown bytes read
+      → ((song : Module) → Spells bytes song → IsThisSong read song)
+      → ReadsSong left given failed old new (ending (song_or_status read))
+  tells (Ok song) is refused only =
+      song_read left given failed old new bytes kept few some all (λ fault has. refused fault has)
+  tells (Err found) is refused only =
+      song_refused left given failed old new bytes kept few some all found is (λ fault has. refused fault has)
+      (λ song spelled. only song spelled)
+
+  pub tells_only : (read : Result Module XmFault) → ((song : Module) → Spells bytes song → IsThisSong read song)
+      → (file : List ℕ) (song : Module) → IsSongFile (left old) file → Spells file song → IsReadAs (song_or_status read) song
+  tells_only (Ok found) only file song held spelled =
+      let whole : bytes ≡ file = told_file (left old) (left new) file bytes held.0 all in
+      only song (subst (λ (it : List ℕ). Spells it song) (sym whole) spelled)
+  tells_only (Err found) only file song held spelled =
+      let whole : bytes ≡ file = told_file (left old) (left new) file bytes held.0 all in
+      accepts found (only song (subst (λ (it : List ℕ). Spells it song) (sym whole) spelled))
+
+  pub tells_song : (read : Result Module XmFault) → IfOk read (Spells bytes)
+      → IfOk (song_or_status read) (λ song. IfSome (left old) (λ file. Spells file song))
+  tells_song (Err found) spelled = tt
+  tells_song (Ok song) spelled = at (left old) refl
+    where
+      at : (held : Option (List ℕ)) → left old ≡ held → IfSome held (λ file. Spells file song)
+      at None e = tt
+      at (Some file) e =
+          subst (λ (it : List ℕ). Spells it song) (told_file (left old) (left new) file bytes e all) spelled
+
+pub tells_valid : (read : Result Module XmFault) → IfOk read IsValid → IfOk (song_or_status read) IsValid
+tells_valid (Ok song) valid = valid
+tells_valid (Err found) valid = tt
+
+unread_refusal : (found : XmFault) → IsUnread (refusal_of found)
+unread_refusal faults.NoMemory = tt
+unread_refusal found = tt
+
+pub tells_kind : (read : Result Module XmFault) → IfErr (song_or_status read) IsUnread
+tells_kind (Ok song) = tt
+tells_kind (Err found) = unread_refusal found

@@ -1,8 +1,10 @@
 pub mod Codes
 pub mod Commands
+pub mod Hearing
 pub mod Measure
 pub mod Pool
 pub mod Run
 pub mod Songs
 pub mod Stage
 pub mod Statuses
+pub mod Ticks

@@ -1,16 +1,20 @@
 -- What `step` says of its pool, and when a run comes to its end.
 use Rattle.std.specs.Prelude.{◌≡◌, ◌≢◌, ◌<◌, ◌≤◌, ℕ, List, Option, IfSome}
+use Rattle.std.specs.Io.KnownBytes.{Appends}
 use Rattle.ft_types.specs.declared.module.Module.{Module}
 use Rattle.ft_types.specs.Blocks.{blocks_of}
 use Rattle.ft_types.specs.Valid.{IsValid}
 use Rattle.ft_format.specs.Spelling.{Spells}
 use Rattle.ft_outer.specs.Counts.{Rose}
+use Rattle.ft_outer.specs.Pieces.{TakesFront}
+use Rattle.ft_words.specs.declared.answer.Step.{Step}
 use Rattle.ft_words.specs.declared.answer.Asked.{Asked}
 use Rattle.ft_words.specs.declared.answer.Asked.TheVariants as ask
 use Rattle.ft_run.specs.Songs.{IsSongFile}
-use Rattle.ft_run.specs.Statuses.{RefusesPool}
+use Rattle.ft_run.specs.Run.{wav_of}
+use Rattle.ft_run.specs.Statuses.{IsCounted, IsPlayEnd, RefusesPool}
 use Rattle.ft_run.specs.declared.status.Status.{Status}
-use Rattle.ft_run.specs.declared.status.Status.TheVariants.{PoolSmall}
+use Rattle.ft_run.specs.declared.status.Status.TheVariants.{Done, PoolSmall, WavWrite}
 
 -- the source holds the bytes of this song
 abbrev pub HoldsSong : Option (List ℕ) → Module → Type 0
@@ -47,3 +51,14 @@ CanBeDone (ask.Gen number) held = Unit {0}
 -- the count didn't rise
 abbrev pub NeverRose : ℕ → ℕ → Type 0
 NeverRose before now = Rose before now → ⊥
+
+-- How a run ends that has read this song, where its sink held and counted this before and after
+pub record PlaysSong (song : Module) (step : Step) (held held_after : Option (List ℕ))
+    (faults faults_after : ℕ) (result : Status) : Type 0 where
+  -- the pool is said to be too small, with both numbers, exactly where the song wants more segments
+  -- than it has: running out of memory never hides it
+  pub small : step.segments < blocks_of song → result ≡ PoolSmall (blocks_of song) step.segments
+  pub wide : blocks_of song ≤ step.segments → IsPlayEnd result
+  pub done : result ≡ Done → Appends held held_after (wav_of song step)
+  pub count : IsCounted WavWrite result faults faults_after
+  pub front : result ≡ WavWrite → TakesFront held held_after (wav_of song step)

@@ -1,5 +1,6 @@
 -- How runs end: the statuses that a command has, and those that name a cause.
-use Rattle.std.specs.Prelude.{◌≡◌, ◌≢◌, ℕ}
+use Rattle.std.specs.Prelude.{◌≡◌, ◌≢◌, ℕ, Result, Ok, Err}
+use Rattle.ft_types.specs.declared.module.Module.{Module}
 use Rattle.ft_outer.specs.Counts.{Rose}
 use Rattle.ft_xmread.specs.declared.fault.XmFault.{XmFault}
 use Rattle.ft_xmread.specs.declared.fault.XmFault.TheVariants as faults
@@ -76,6 +77,14 @@ IsDone Done = Unit {0}
 IsDone NoMemory = Unit {0}
 IsDone status = ⊥
 
+-- a song that was read, and for which the pool has room, is played: all is written, or a write
+-- failed, or memory ran out
+abbrev pub IsPlayEnd : Status → Type 0
+IsPlayEnd Done = Unit {0}
+IsPlayEnd WavWrite = Unit {0}
+IsPlayEnd NoMemory = Unit {0}
+IsPlayEnd status = ⊥
+
 -- ---- what is said of a song
 
 -- the song is taken, unless it could not be read, or memory ran out
@@ -106,6 +115,11 @@ RefusesPool status blocks segments = ⊥
 abbrev pub refusal_of : XmFault → Status
 refusal_of faults.NoMemory = NoMemory
 refusal_of fault = Song (Xm fault)
+
+-- a song that was read, or the status of a run whose song has this fault
+abbrev pub song_or_status : Result Module XmFault → Result Module Status
+song_or_status (Ok song) = Ok song
+song_or_status (Err fault) = Err (refusal_of fault)
 
 -- ---- counts of the outside
 

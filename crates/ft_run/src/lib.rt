@@ -6,6 +6,8 @@
 
 mod copying;
 mod generating;
+mod hearing;
+mod laws;
 mod measure;
 mod play;
 mod run;
@@ -14,6 +16,7 @@ mod stage;
 mod status;
 mod stepping;
 
+pub use laws::the_songs_of_a_desk_stand_behind_its_passes;
 pub use run::run_plain;
 pub use song::MOST_BYTES;
 pub use status::{SongFault, Status};

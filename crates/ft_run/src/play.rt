@@ -1,80 +1,60 @@
 //! Playing a song from the pool of a register into a WAV file.
 
-ghost use Rattle.std.specs.Prelude.{◌≡◌, ◌≤◌, ◌^◌, ◌*◌, ◌<◌, ℤ, ℕ, List, OnOk, OnErr, length};
+ghost use Rattle.std.specs.Prelude.{◌≡◌, ◌≤◌, OnOk, OnErr};
 ghost use Rattle.std.specs.Io.KnownBytes.{Appends};
 ghost use Rattle.ft_types.specs.Valid.{IsValid};
 ghost use Rattle.ft_outer.specs.Counts.{HasCause};
 ghost use Rattle.ft_outer.specs.Pieces.{TakesFront};
 ghost use Rattle.ft_out.specs.Wav.{sound_bytes};
-ghost use Rattle.ft_replay.specs.Replay.{sound_from, sound_of_song};
-ghost use Rattle.ft_player.specs.Player.{ForAllBehind, stood_by};
-ghost use Rattle.ft_player.specs.Songs.{song_at};
+ghost use Rattle.ft_replay.specs.Replay.{sound_of_song};
 ghost use Rattle.ft_run.specs.Commands.{IsPlayable};
+ghost use Rattle.ft_run.specs.Hearing.{TakesSound, TakesSoundFront};
 ghost use Rattle.ft_run.specs.Run.{wav_of};
-ghost use Rattle.ft_run.specs.Stage.{IsSet, IsOnly};
+ghost use Rattle.ft_run.specs.Stage.{IsSet};
 
+use crate::hearing::{Listener, play_stage};
 use crate::stage::Stage;
 use ft_out::{TICK_BYTES, put_frames_through, wav_head};
 use ft_outer::{Sink, WriteFault, put_all, taking_law};
-use ft_player::Player;
-use ft_replay::replay_law;
-use ft_shared::Shared;
-use ft_types::{Module, Steps};
+use ft_types::Module;
 use ft_words::Step;
 use std::marker::Brand;
-use std::sync::ledger::{Blank, Ledger};
+use std::sync::ledger::Blank;
 
-/// Room for the numbers of the longest tick: 3,750 frames, left and right, and a frame more.
-pub const TICK_NUMBERS: usize = 7_502;
-
-/// Writes that many frames of what a player plays, tick by tick; the last tick is cut. Whatever is
-/// behind the player, where that is one version alone, it is the replay of this version.
-fn put_ticks<W: Sink, L: Ledger>(
-    player: &mut Player,
-    shared: &Shared,
-    frames: u32,
-    wav: &mut W,
-    steps: &mut Steps<L>,
-) -> Result<(), WriteFault>
-    requires same { player.old.pass.register ≡ shared.now }
-    ensures register { player.new.pass.register ≡ player.old.pass.register }
-    ensures whole { OnOk result (ForAllBehind player.old player.new (λ songs.
-        (version : ℕ) → IsOnly songs version
-        → Appends (W.held wav.old) (W.held wav.new) (sound_bytes
-        (sound_from version (song_at songs version) frames player.old.rate
-        (stood_by songs player.old))))) }
-    ensures front { OnErr result (ForAllBehind player.old player.new (λ songs.
-        (version : ℕ) → IsOnly songs version
-        → TakesFront (W.held wav.old) (W.held wav.new) (sound_bytes
-        (sound_from version (song_at songs version) frames player.old.rate
-        (stood_by songs player.old))))) }
-    ensures cause { HasCause (W.faults wav.old) (W.faults wav.new) result }
-{
-    taking_law();
-    replay_law();
-    let mut numbers = [0; TICK_NUMBERS];
-    let mut bytes = [0; TICK_BYTES];
-    let mut left = frames;
-    while left > 0 {
-        let tick = player.tick(shared, &mut numbers, steps);
-        let count = tick.frames.min(left);
-        put_frames_through(wav, &mut bytes, &numbers[..2 * count as usize])?;
-        left -= count;
-    }
-    Ok(())
+/// Writes what it hears to a sink, each number in two bytes.
+#[derive(Drop)]
+struct SoundSink<'a, W: Sink> {
+    sink: &'a mut W,
+    /// Room for the bytes of a tick.
+    bytes: [u8; TICK_BYTES],
 }
 
-/// Writes that many frames of the song of a stage, from its beginning. Afterwards the pass is given
-/// up: so what was played is known to be what is in the register's history.
-fn put_song<W: Sink, L: Ledger>(
-    blank: Blank,
+impl<'a, W: Sink> Listener for SoundSink<'a, W> {
+    ghost heard = { λ a b numbers. (a.sink.ghost_name ≡ b.sink.ghost_name)
+        × TakesSound (W.held a.sink.now) (W.held b.sink.now)
+        (W.faults a.sink.now) (W.faults b.sink.now) numbers };
+
+    ghost failed = { λ a b numbers. (a.sink.ghost_name ≡ b.sink.ghost_name)
+        × TakesSoundFront (W.held a.sink.now) (W.held b.sink.now)
+        (W.faults a.sink.now) (W.faults b.sink.now) numbers };
+
+    fn hear(&mut self, numbers: &[i16]) -> Result<(), WriteFault> {
+        put_frames_through(self.sink, &mut self.bytes, numbers)
+    }
+
+    fn hearing_law(&self) {
+        taking_law();
+    }
+}
+
+/// Writes that many frames of the song of a stage, from its beginning.
+fn put_song<W: Sink>(
     stage: Stage,
     song: &Module,
     rate: u32,
     frames: u32,
     wav: &mut W,
 ) -> Result<(), WriteFault>
-    requires blank { (blank.name ≡ L.name) × (blank.parts ≡ L.parts) × (0 < L.parts) }
     requires set { IsSet song.now stage }
     requires valid { IsValid song.now }
     requires low { 8000 ≤ rate }
@@ -85,18 +65,12 @@ fn put_song<W: Sink, L: Ledger>(
         (sound_bytes (sound_of_song song.now frames rate))) }
     ensures cause { HasCause (W.faults wav.old) (W.faults wav.new) result }
 {
-    let Stage {
-        shared,
-        mut desk,
-        pass,
-    } = stage;
-    desk.history_law();
-    let mut steps = Steps::<L>::open(blank);
-    let mut player = Player::open(pass, song.channels, rate);
-    let done = put_ticks(&mut player, &shared, frames, wav, &mut steps);
-    let pass = player.close(&shared, &mut steps);
-    desk.settle(&shared, pass);
-    done
+    let mut ear = SoundSink {
+        sink: wav,
+        bytes: [0; TICK_BYTES],
+    };
+    play_stage::<SoundSink<W>, Brand>(Blank::new(1), stage, song, rate, frames, &mut ear)?;
+    Ok(())
 }
 
 /// Writes the WAV file of the song of a stage: its head, and then its replay. After a fault the
@@ -113,5 +87,5 @@ pub fn play<W: Sink>(stage: Stage, song: &Module, step: Step, wav: &mut W) -> Re
     taking_law();
     let frames = step.rate * step.seconds;
     put_all(wav, &wav_head(step.rate, frames))?;
-    put_song::<W, Brand>(Blank::new(1), stage, song, step.rate, frames, wav)
+    put_song(stage, song, step.rate, frames, wav)
 }

@@ -4,7 +4,7 @@ ghost use Rattle.std.specs.Prelude.{◌≡◌, ◌<◌, ◌^◌, ℕ, List, IfOk
 ghost use Rattle.ft_types.specs.declared.module.Module.{Module as Song};
 ghost use Rattle.ft_types.specs.Valid.{IsValid};
 ghost use Rattle.ft_format.specs.Spelling.{Spells};
-ghost use Rattle.ft_run.specs.Statuses.{IsUnread, refusal_of};
+ghost use Rattle.ft_run.specs.Statuses.{IsUnread, refusal_of, song_or_status};
 ghost use Rattle.ft_run.specs.Songs.{ReadsSong, IsSongFile, IsReadAs, ending};
 
 use crate::status::{SongFault, Status};
@@ -32,7 +32,15 @@ pub fn read_song<S: Source>(alloc: Global, source: &mut S) -> Result<Module, Sta
         Err(ReadFault::TooBig) => return Err(Status::Song(SongFault::TooBig)),
         Err(ReadFault::NoMemory) => return Err(Status::NoMemory),
     };
-    match read_xm(alloc, &bytes) {
+    song_or_status(read_xm(alloc, &bytes))
+}
+
+/// A song that was read, or the status of a run whose song has this fault. Each fault keeps its own
+/// status: none is answered as running out of memory.
+fn song_or_status(read: Result<Module, XmFault>) -> Result<Module, Status>
+    ensures { result ≡ song_or_status read }
+{
+    match read {
         Ok(song) => Ok(song),
         Err(fault) => Err(refusal_of(fault)),
     }

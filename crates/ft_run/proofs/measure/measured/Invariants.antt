@@ -1,4 +1,4 @@
 use Rattle.ft_run.proofs.measure.measured.Given as goal
 
-abbrev pub ghosts-measure_song : goal.ghosts-measure_song
-ghosts-measure_song a = record { name = a.blank.name; parts = a.blank.parts }
+abbrev pub ghosts-play_stage : goal.ghosts-play_stage
+ghosts-play_stage a = record { name = a.blank.name; parts = a.blank.parts }

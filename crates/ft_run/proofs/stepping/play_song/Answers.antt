@@ -1,43 +1,100 @@
-use Rattle.std.proofs.Common.{ℕ, List, Option, arith, ap}
-use Rattle.ft_types.specs.Blocks.{blocks_of}
-use Rattle.ft_run.proofs.Pool.{unread_tells, unread_done, small_told, wide_tells, fits, is_small}
+use Rattle.ft_run.proofs.Ending.{end_kinds, end_read, end_done, end_count, end_front, end_pool, end_complete}
 use Rattle.ft_run.proofs.stepping.play_song.Goals as goal
 
-pub returns-in-Err-clause-pool : goal.returns-in-Err-clause-pool
-returns-in-Err-clause-pool g c = unread_tells _ _ c.in-Err.status c.in-Err.ensures.kinds c.in-Err.ensures.only
+pub returns-clause-kinds : goal.returns-clause-kinds
+returns-clause-kinds g c =
+    end_kinds g.S.Source.left g.S.Source.given g.S.Source.faults g.W.Sink.held g.W.Sink.faults c.args.step c.args.song.now
+    c.read_song-read.new.source c.args.wav.now c.play_read.new.wav c.play_read.result c.read_song-read.result (
+      c.read_song-read.ensures.valid,
+      c.read_song-read.ensures.told,
+      c.read_song-read.ensures.read,
+      c.read_song-read.ensures.only,
+      c.read_song-read.ensures.kinds,
+      c.play_read.ensures.unread,
+      c.play_read.ensures.untouched,
+      c.play_read.ensures.played,
+    )
 
-pub returns-in-Err-clause-complete : goal.returns-in-Err-clause-complete
-returns-in-Err-clause-complete g c = λ can sure written.
-    let held = can.1 in
-    unread_done c.in-Err.status c.in-Err.ensures.kinds (c.in-Err.ensures.only held.0 can.0 held.1 held.2)
-    (λ failed. sure (c.in-Err.ensures.read.count.told failed))
+pub returns-clause-read : goal.returns-clause-read
+returns-clause-read g c =
+    end_read g.S.Source.left g.S.Source.given g.S.Source.faults g.W.Sink.held g.W.Sink.faults c.args.step c.args.song.now
+    c.read_song-read.new.source c.args.wav.now c.play_read.new.wav c.play_read.result c.read_song-read.result (
+      c.read_song-read.ensures.valid,
+      c.read_song-read.ensures.told,
+      c.read_song-read.ensures.read,
+      c.read_song-read.ensures.only,
+      c.read_song-read.ensures.kinds,
+      c.play_read.ensures.unread,
+      c.play_read.ensures.untouched,
+      c.play_read.ensures.played,
+    )
 
-pub returns-in-Err-PoolSmall-clause-pool : goal.returns-in-Err-PoolSmall-clause-pool
-returns-in-Err-PoolSmall-clause-pool g c =
-    let p = c.in-Err-PoolSmall in
-    let segments : ℕ = c.args.step.segments in
-    let held : Option (List ℕ) = g.S.Source.left c.args.song.now in
-    let is = is_small segments (blocks_of c.in-Ok.module) p.need p.segments p.field-0 p.field-0-is
-    p.ensures.small p.ensures.memory in
-    small_told held segments c.in-Ok.module c.in-Ok.ensures.only p.need p.segments _ _ c.in-Ok.ensures.valid c.in-Ok.ensures.told
-    is.0 is.1 is.2 p.need-is p.segments-is
+pub returns-clause-done : goal.returns-clause-done
+returns-clause-done g c =
+    end_done g.S.Source.left g.S.Source.given g.S.Source.faults g.W.Sink.held g.W.Sink.faults c.args.step c.args.song.now
+    c.read_song-read.new.source c.args.wav.now c.play_read.new.wav c.play_read.result c.read_song-read.result (
+      c.read_song-read.ensures.valid,
+      c.read_song-read.ensures.told,
+      c.read_song-read.ensures.read,
+      c.read_song-read.ensures.only,
+      c.read_song-read.ensures.kinds,
+      c.play_read.ensures.unread,
+      c.play_read.ensures.untouched,
+      c.play_read.ensures.played,
+    )
 
-pub returns-in-Err-PoolSmall-clause-complete : goal.returns-in-Err-PoolSmall-clause-complete
-returns-in-Err-PoolSmall-clause-complete g c = λ can sure written.
-    let p = c.in-Err-PoolSmall in
-    let held = can.1 in
-    let same = ap blocks_of (c.in-Ok.ensures.only held.0 can.0 held.1 held.2) in
-    let few = can.2 in
-    let is = is_small c.args.step.segments (blocks_of c.in-Ok.module) p.need p.segments p.field-0 p.field-0-is
-    p.ensures.small p.ensures.memory in
-    omega (arith, same, few, is.0)
+pub returns-clause-wav_count : goal.returns-clause-wav_count
+returns-clause-wav_count g c =
+    end_count g.S.Source.left g.S.Source.given g.S.Source.faults g.W.Sink.held g.W.Sink.faults c.args.step c.args.song.now
+    c.read_song-read.new.source c.args.wav.now c.play_read.new.wav c.play_read.result c.read_song-read.result (
+      c.read_song-read.ensures.valid,
+      c.read_song-read.ensures.told,
+      c.read_song-read.ensures.read,
+      c.read_song-read.ensures.only,
+      c.read_song-read.ensures.kinds,
+      c.play_read.ensures.unread,
+      c.play_read.ensures.untouched,
+      c.play_read.ensures.played,
+    )
 
-pub returns-in-Ok-play-clause-pool : goal.returns-in-Ok-play-clause-pool
-returns-in-Ok-play-clause-pool g c =
-    wide_tells _ _ c.in-Ok.module c.in-Ok.ensures.only _
-    (fits c.args.step.segments (blocks_of c.in-Ok.module) c.in-Ok-open.stage _ c.in-Ok-open.ensures.small) (λ need had e. cc)
+pub returns-clause-wav_front : goal.returns-clause-wav_front
+returns-clause-wav_front g c =
+    end_front g.S.Source.left g.S.Source.given g.S.Source.faults g.W.Sink.held g.W.Sink.faults c.args.step c.args.song.now
+    c.read_song-read.new.source c.args.wav.now c.play_read.new.wav c.play_read.result c.read_song-read.result (
+      c.read_song-read.ensures.valid,
+      c.read_song-read.ensures.told,
+      c.read_song-read.ensures.read,
+      c.read_song-read.ensures.only,
+      c.read_song-read.ensures.kinds,
+      c.play_read.ensures.unread,
+      c.play_read.ensures.untouched,
+      c.play_read.ensures.played,
+    )
 
 pub returns-clause-pool : goal.returns-clause-pool
 returns-clause-pool g c =
-    wide_tells _ _ c.in-Ok.module c.in-Ok.ensures.only _
-    (fits c.args.step.segments (blocks_of c.in-Ok.module) c.in-Ok-open.stage _ c.in-Ok-open.ensures.small) (λ need had e. cc)
+    end_pool g.S.Source.left g.S.Source.given g.S.Source.faults g.W.Sink.held g.W.Sink.faults c.args.step c.args.song.now
+    c.read_song-read.new.source c.args.wav.now c.play_read.new.wav c.play_read.result c.read_song-read.result (
+      c.read_song-read.ensures.valid,
+      c.read_song-read.ensures.told,
+      c.read_song-read.ensures.read,
+      c.read_song-read.ensures.only,
+      c.read_song-read.ensures.kinds,
+      c.play_read.ensures.unread,
+      c.play_read.ensures.untouched,
+      c.play_read.ensures.played,
+    )
+
+pub returns-clause-complete : goal.returns-clause-complete
+returns-clause-complete g c =
+    end_complete g.S.Source.left g.S.Source.given g.S.Source.faults g.W.Sink.held g.W.Sink.faults c.args.step c.args.song.now
+    c.read_song-read.new.source c.args.wav.now c.play_read.new.wav c.play_read.result c.read_song-read.result (
+      c.read_song-read.ensures.valid,
+      c.read_song-read.ensures.told,
+      c.read_song-read.ensures.read,
+      c.read_song-read.ensures.only,
+      c.read_song-read.ensures.kinds,
+      c.play_read.ensures.unread,
+      c.play_read.ensures.untouched,
+      c.play_read.ensures.played,
+    )
