@@ -6,17 +6,9 @@ mod copying;
 #[cfg(test)]
 mod generating;
 #[cfg(test)]
-mod heard;
-#[cfg(test)]
 mod lines;
 #[cfg(test)]
-mod loud;
-#[cfg(test)]
-mod most;
-#[cfg(test)]
 mod outside;
-#[cfg(test)]
-mod played;
 #[cfg(test)]
 mod pool;
 #[cfg(test)]

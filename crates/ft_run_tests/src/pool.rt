@@ -2,7 +2,7 @@
 
 use crate::runs::{End, end_of, is_refused};
 use ft_run::Status;
-use ft_songs::{Head, header, instrument, pattern};
+use ft_songs::{Head, header, pattern};
 use std::alloc::{AllocError, Global};
 use std::test::Fail;
 
@@ -22,27 +22,6 @@ fn small_song(alloc: Global) -> Result<Vec<u8>, AllocError> {
     let mut song = header(alloc, PATTERNS)?;
     for _ in 0..32 {
         song.extend_from_slice(&pattern(alloc, &[(0, 0); 64])?)?;
-    }
-    Ok(song)
-}
-
-/// A song of a usual size.
-const USUAL: Head<'static> = Head {
-    channels: 8,
-    patterns: 40,
-    instruments: 20,
-    ..PATTERNS
-};
-
-/// A song of 681 blocks: 40 patterns of 64 rows take 3 each, 20 instruments of one sample of 25,000
-/// frames take 28 each, and the song one.
-fn usual_song(alloc: Global) -> Result<Vec<u8>, AllocError> {
-    let mut song = header(alloc, USUAL)?;
-    for _ in 0..40 {
-        song.extend_from_slice(&pattern(alloc, &[(0, 0); 64])?)?;
-    }
-    for _ in 0..20 {
-        song.extend_from_slice(&instrument(alloc, 25_000, 0, 0)?)?;
     }
     Ok(song)
 }
@@ -82,42 +61,20 @@ fn ends_so(alloc: Global, text: &str, song: &[u8], status: Status, wav: u64) -> 
     }
 }
 
+/// Words whose pool has just room for it, or much.
+static ENOUGH: [&str; 2] = [
+    "step s w l --rate=8000 --seconds=1 --segments=65",
+    "step s w l --rate=8000 --seconds=1",
+];
+
 #[test]
 fn a_pool_of_just_enough_segments_is_played_from(rt: HostRuntime) -> Result<(), Fail> {
     let song = small_song(rt.alloc())?;
-    for text in [
-        "step s w l --rate=8000 --seconds=1 --segments=65",
-        "step s w l --rate=8000 --seconds=1",
-    ] {
+    for text in ENOUGH.iter() {
         assert!(rt;
             ends_so(rt.alloc(), text, &song, Status::Done, 32_044),
             "{text}"
         );
     }
-    Ok(())
-}
-
-/// 60 seconds at 44,100 frames a second.
-#[test]
-fn a_usual_song_is_played_by_all_defaults(rt: HostRuntime) -> Result<(), Fail> {
-    let song = usual_song(rt.alloc())?;
-    assert!(rt; ends_so(rt.alloc(), "step s w l", &song, Status::Done, 10_584_044));
-    assert!(rt;
-        ends_so(
-            rt.alloc(),
-            "step s w l --segments=680",
-            &song,
-            too_small(681, 680),
-            0
-        )
-    );
-    Ok(())
-}
-
-/// A copy wants no pool.
-#[test]
-fn a_song_is_copied_whatever_its_blocks(rt: HostRuntime) -> Result<(), Fail> {
-    let song = usual_song(rt.alloc())?;
-    assert!(rt; end_of(rt.alloc(), "copy s o", &song)?.status == Status::Done);
     Ok(())
 }
