@@ -1,6 +1,7 @@
 -- A player is in order again after a tick.
 use Rattle.std.proofs.Common.{◌≡◌, ◌≤◌, ◌<◌, ◌⊎◌, ℕ, Bool, List, [], ◌∷◌, ◌++◌, All, Some, length, map, is_some, refl, sym, ap, subst, ◌∙◌, arith}
 use Rattle.std.specs.List.{Contains}
+use Rattle.ft_types.specs.declared.voice.Voice.{Voice}
 use Rattle.ft_replay.specs.Calls.{AreVoicesExact, AreVoicesKept, StaysExact}
 use Rattle.ft_replay.specs.Range.{IsSongInRange}
 use Rattle.ft_shared.specs.declared.law.TakenVersion.{TakenVersion}
