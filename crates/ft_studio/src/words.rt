@@ -15,8 +15,15 @@ pub fn words_of(alloc: Global, args: io::Result<Args>) -> Result<Vec<String>, Al
     ensures no_text { IfErr args (λ _. IfOk result (λ words. words.items ≡ [])) }
 {
     match args {
-        Ok(args) => args.skip(1).collect(alloc),
+        Ok(args) => words_behind(alloc, args),
         Err(error) if error.kind() == io::ErrorKind::OutOfMemory => Err(AllocError),
         Err(_) => Ok(Vec::new(alloc)),
     }
+}
+
+/// All words but the first, which is the program's name.
+fn words_behind(alloc: Global, args: Args) -> Result<Vec<String>, AllocError>
+    ensures { IfOk result (λ words. words.items ≡ drop 1 (into_iter_items args)) }
+{
+    args.skip(1).collect(alloc)
 }
