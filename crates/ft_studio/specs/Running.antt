@@ -41,7 +41,7 @@ pub record IsStatusOn (files : Outside) (result : Status) : Type 0 where
 
 -- words were run: on the files that they name, or on none where they are refused or memory ran out
 pub record WereRun (words : List (String Global)) (ran : Ran) : Type 0 where
-  pub words : IsStatusOf words ran.status
+  pub status : IsStatusOf words ran.status
   pub on : IfSome ran.files (λ files. IsStatusOn files ran.status)
   pub nowhere : ran.files ≡ None → RefusesWords ran.status
 

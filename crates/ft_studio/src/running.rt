@@ -1,6 +1,6 @@
 //! Words are run on the files that they name.
 
-ghost use Rattle.std.specs.Prelude.{◌≡◌, ◌⊎◌, [], None, drop, IfOk, IfErr};
+ghost use Rattle.std.specs.Prelude.{◌≡◌, ◌⊎◌, [], drop, IfOk, IfErr};
 ghost use Rattle.std.specs.Process.{exit_status};
 ghost use Rattle.std.specs.Vec.Iter.{into_iter_items};
 ghost use Rattle.ft_run.specs.Codes.{code_of};
@@ -26,17 +26,6 @@ pub struct Ran {
 }
 
 impl Ran {
-    /// Nothing was run.
-    fn nowhere(status: Status) -> Ran
-        ensures status { result.status ≡ status }
-        ensures files { result.files ≡ None }
-    {
-        Ran {
-            status,
-            files: None,
-        }
-    }
-
     /// The exit code of the process: that of the run's status.
     pub fn exit_code(&self) -> ExitCode
         ensures { exit_status result ≡ code_of self.now.status }
@@ -57,8 +46,14 @@ fn run_words(rt: HostRuntime, words: &[String]) -> Ran
                 files: Some(outside),
             }
         }
-        Err(NamesFault::Usage) => Ran::nowhere(run_nothing(rt.alloc(), words)),
-        Err(NamesFault::NoMemory) => Ran::nowhere(Status::NoMemory),
+        Err(NamesFault::Usage) => Ran {
+            status: run_nothing(rt.alloc(), words),
+            files: None,
+        },
+        Err(NamesFault::NoMemory) => Ran {
+            status: Status::NoMemory,
+            files: None,
+        },
     }
 }
 
@@ -70,6 +65,9 @@ pub fn run_args(rt: HostRuntime, args: io::Result<Args>) -> Ran
 {
     match words_of(rt.alloc(), args) {
         Ok(words) => run_words(rt, &words),
-        Err(AllocError) => Ran::nowhere(Status::NoMemory),
+        Err(AllocError) => Ran {
+            status: Status::NoMemory,
+            files: None,
+        },
     }
 }
