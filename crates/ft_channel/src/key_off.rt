@@ -1,6 +1,7 @@
 //! The key off, and the target of a tone portamento: what a note does to a voice that sounds.
 
 ghost use Rattle.std.specs.Prelude.{◌≡◌, ◌≤◌, ◌<◌, ◌+◌, ◌≤ℤ◌, ◌*◌, ℕ, ℤ, pos, true, nat_abs};
+ghost use Rattle.ft_types.specs.Limits.{highest_period};
 ghost use Rattle.ft_types.specs.declared.voice.SampleHead.{SampleHead};
 ghost use Rattle.ft_types.specs.Work as work_of;
 ghost use Rattle.ft_tables.specs.Pitch as pitch;
@@ -50,7 +51,7 @@ pub fn tuned_period(linear: bool, note: i16, finetune: i8) -> u16
     requires low { pos 0 ≤ℤ note }
     requires high { note ≤ℤ pos 118 }
     ensures value { result ≡ pitch.period_of linear (nat_abs note) finetune }
-    ensures range { result ≤ 31999 }
+    ensures range { result ≤ highest_period }
 {
     period(linear, note as u8, finetune)
 }
@@ -65,7 +66,7 @@ pub fn is_played(note: i16) -> bool
 
 /// Sets the target of a tone portamento.
 fn set_target(channel: &mut Channel, period: u16)
-    requires { period ≤ 31999 }
+    requires { period ≤ highest_period }
     ensures value { channel.new ≡ record channel.old { target = period } }
     ensures stays { Stays channel.old channel.new }
 {

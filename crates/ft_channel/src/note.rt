@@ -1,6 +1,7 @@
 //! The note of a cell.
 
 ghost use Rattle.std.specs.Prelude.{◌≡◌, ◌≤◌, ◌<◌, ◌+◌, ◌/◌, ◌%◌, ◌==◌, if◌then◌else◌, ◌≤ℤ◌, ◌&&◌, ℕ, true, None, Some, pos, nat_lt, length};
+ghost use Rattle.ft_types.specs.Limits.{highest_period};
 ghost use Rattle.ft_types.specs.Valid.{IsValidHead};
 ghost use Rattle.ft_tables.specs.Pitch as pitch;
 ghost use Rattle.ft_replay.specs.Calls as calls;
@@ -100,7 +101,7 @@ fn begin_waves(channel: &mut Channel)
 fn begin_voice(channel: &mut Channel, c: u8, frame: u32, head: SampleHead, period: u16)
     requires head { IsValidHead head }
     requires frame { frame < head.frames }
-    requires period { period ≤ 31999 }
+    requires period { period ≤ highest_period }
     ensures value { channel.new ≡ row.with_voice (row.new_voice c frame head) period channel.old }
     ensures voice { channel.new.voice ≡ Some (row.new_voice c frame head) }
     ensures range { IsChannelInRange c channel.old → IsChannelInRange c channel.new }

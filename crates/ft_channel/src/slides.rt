@@ -1,6 +1,7 @@
 //! What moves a period, a volume or a panning.
 
 ghost use Rattle.std.specs.Prelude.{◌≡◌, ◌≤◌};
+ghost use Rattle.ft_types.specs.Limits.{highest_period};
 ghost use Rattle.ft_replay.specs.Slides as slides;
 ghost use Rattle.ft_channel.specs.Staying.{Stays};
 
@@ -29,10 +30,10 @@ pub fn raise_period(channel: &mut Channel, amount: u16)
 
 /// A period that goes by an amount to another one, and not past it.
 fn towards(target: u16, amount: u16, period: u16) -> u16
-    requires target { target ≤ 31999 }
-    requires period { period ≤ 31999 }
+    requires target { target ≤ highest_period }
+    requires period { period ≤ highest_period }
     ensures value { result ≡ slides.towards target amount period }
-    ensures bounded { result ≤ 31999 }
+    ensures bounded { result ≤ highest_period }
 {
     if period < target {
         return period.saturating_add(amount).min(target);
@@ -42,8 +43,8 @@ fn towards(target: u16, amount: u16, period: u16) -> u16
 
 /// The period goes to the target of a tone portamento.
 pub fn tone_portamento(channel: &mut Channel)
-    requires target { channel.old.target ≤ 31999 }
-    requires period { channel.old.period ≤ 31999 }
+    requires target { channel.old.target ≤ highest_period }
+    requires period { channel.old.period ≤ highest_period }
     ensures value { channel.new ≡ slides.tone_portamento channel.old }
     ensures stays { Stays channel.old channel.new }
 {

@@ -1,4 +1,4 @@
--- What the changes of one pattern, one instrument and one sample take for granted.
+-- What the changes of one instrument and one sample take for granted.
 use Rattle.std.specs.Prelude.{ℕ, ◌<◌, ◌≤◌, ◌++◌, ◌==◌, Bool, List, ℤ, pos, ◌*ℤ◌, take, drop, map, reverse, length, if◌then◌else◌}
 use Rattle.ft_types.specs.declared.edit.Edit.{Edit}
 use Rattle.ft_types.specs.declared.edit.Edit.TheVariants as edits
@@ -6,12 +6,6 @@ use Rattle.ft_types.specs.declared.instrument.Instrument.{Instrument}
 use Rattle.ft_types.specs.declared.sample.Sample.{Sample}
 use Rattle.ft_edits.specs.Lists.{changed_at, with_stretch}
 use Rattle.ft_edits.specs.Samples.{floor_of, scaled_frame}
-
--- the row is there
-abbrev pub SuitsRows : ℕ → Edit → Type 0
-SuitsRows rows (edits.Insrow p r) = r < rows
-SuitsRows rows (edits.Delrow p r) = r < rows
-SuitsRows rows _ = Unit {0}
 
 -- the note and the point are there
 abbrev pub SuitsInstrument : Edit → Type 0

@@ -1,7 +1,6 @@
 //! Edits applied to a module in place: what the definitions of `ft_edits` say, done.
 #![tactic(auto)]
 
-mod block;
 mod edit;
 mod frames;
 mod instrument;

@@ -8,7 +8,8 @@ use Rattle.ft_types.specs.declared.edit.Edit.TheVariants as edits
 use Rattle.ft_types.specs.declared.edit_fault.EditFault.{EditFault}
 use Rattle.ft_types.specs.declared.edit_fault.EditFault.TheVariants.{NoPattern, NoRow, NoChannel, NoOrder, NoInstrument, Range, TooMany, NoSample, Cut}
 use Rattle.ft_types.specs.Views.{rows_at, instrument_at, sample_in}
-use Rattle.ft_edits.specs.Numbers.{field_bits, field_bpm, field_count, field_depth, field_divisor, field_flags, field_frame, field_index, field_kind, field_length, field_level, field_map, field_note, field_rate, field_rows, field_size, field_tempo, field_which, kind_frames, kind_instruments, kind_orders, kind_patterns, kind_samples, most_frames, most_instruments, most_orders, most_patterns, most_rows, most_samples}
+use Rattle.ft_types.specs.Limits.{most_frames, most_instruments, most_orders, most_patterns, most_rows, most_samples}
+use Rattle.ft_edits.specs.Numbers.{field_bits, field_bpm, field_count, field_depth, field_divisor, field_flags, field_frame, field_index, field_kind, field_length, field_level, field_map, field_note, field_rate, field_rows, field_size, field_tempo, field_which, kind_frames, kind_instruments, kind_orders, kind_patterns, kind_samples}
 
 -- ---- causes
 

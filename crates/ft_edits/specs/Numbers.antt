@@ -1,5 +1,5 @@
--- The numbers that faults name: which field is out of its range, of what there would be too many,
--- and how many there are at most.
+-- The numbers that faults name: which field is out of its range, and of what there would be too
+-- many.
 use Rattle.std.specs.Prelude.{ℕ}
 
 -- ---- the fields of a range
@@ -82,26 +82,3 @@ kind_samples = 4
 
 abbrev pub kind_frames : ℕ
 kind_frames = 5
-
--- ---- how many there are at most
-
-abbrev pub most_orders : ℕ
-most_orders = 256
-
-abbrev pub most_patterns : ℕ
-most_patterns = 256
-
--- of a pattern
-abbrev pub most_rows : ℕ
-most_rows = 256
-
-abbrev pub most_instruments : ℕ
-most_instruments = 128
-
--- of an instrument
-abbrev pub most_samples : ℕ
-most_samples = 16
-
--- of a sample
-abbrev pub most_frames : ℕ
-most_frames = 3932160

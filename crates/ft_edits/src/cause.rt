@@ -1,7 +1,8 @@
 //! The causes for which an edit is refused, one by one, by the sizes of a song.
 
 ghost use Rattle.std.specs.Prelude.{◌≡◌, ◌≤◌, ◌+◌, ◌-◌, ◌&&◌, ◌||◌, None, length, nat_lt, nat_le, nat_eq, pos, if◌then◌else◌};
-ghost use Rattle.ft_edits.specs.Numbers.{most_frames, kind_frames};
+ghost use Rattle.ft_types.specs.Limits.{most_frames};
+ghost use Rattle.ft_edits.specs.Numbers.{kind_frames};
 ghost use Rattle.ft_edits.specs.Faults.{unless, out_of_range, over_limit, missing_order, is_narrow, first_wide_frame};
 
 use crate::numbers::{field, kind, most};

@@ -7,7 +7,7 @@ ghost use Rattle.ft_types.specs.Valid.{IsValid};
 ghost use Rattle.ft_types.specs.Views.{rows_at, instrument_at};
 ghost use Rattle.ft_types.specs.Edits.{IsGivable};
 ghost use Rattle.ft_edits.specs.Faults.{fault_of};
-ghost use Rattle.ft_edits.specs.Numbers.{most_frames};
+ghost use Rattle.ft_types.specs.Limits.{most_frames};
 ghost use Rattle.ft_edits.specs.Sizes.{sample_sizes};
 
 use crate::fault::fault_of;

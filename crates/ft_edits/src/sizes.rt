@@ -3,7 +3,7 @@
 ghost use Rattle.std.specs.Prelude.{◌≡◌, ◌≤◌};
 ghost use Rattle.ft_types.specs.declared.module.Module.{Module};
 ghost use Rattle.ft_types.specs.Views.{rows_at};
-ghost use Rattle.ft_edits.specs.Numbers.{most_frames};
+ghost use Rattle.ft_types.specs.Limits.{most_frames};
 ghost use Rattle.ft_edits.specs.Sizes.{song_sizes, sample_sizes};
 
 /// How many parts a song has.

@@ -2,6 +2,7 @@
 
 ghost use Rattle.std.specs.Prelude.{◌≡◌, ◌≤◌, ◌<◌, ◌+◌, ◌*◌, ◌/◌, ◌%◌, ℕ, pos, All, length, get_or};
 ghost use Rattle.std.specs.List.{sum_by};
+ghost use Rattle.ft_types.specs.Limits.{room_of_tick};
 ghost use Rattle.ft_types.specs.Work as work_of;
 ghost use Rattle.ft_replay.specs.Sound as sound;
 ghost use Rattle.ft_mix.specs.Mixing as mixing;
@@ -151,7 +152,7 @@ pub fn fill<V: SongView>(view: &mut V, voices: &[Voice], out: &mut [i16])
         voices.now }
     requires few { length voices.now ≤ 32 }
     requires even { length out.old % 2 ≡ 0 }
-    requires room { length out.old ≤ 7502 }
+    requires room { length out.old ≤ room_of_tick }
     ensures sound { mixing.OnlyAsks V.shows V.shown view.old view.new (λ shown. out.new
         ≡ sound.sound_of_voices shown.kept voices.now (length out.old / 2)) }
     ensures many { length out.new ≡ length out.old }

@@ -2,6 +2,7 @@
 
 ghost use Rattle.std.specs.Prelude.{◌≡◌, ◌≢◌, ◌≤◌, ◌<◌, ◌+◌, ◌*◌, ◌/◌, ◌%◌, ℕ, All, length};
 ghost use Rattle.std.specs.List.{sum_by};
+ghost use Rattle.ft_types.specs.Limits.{room_of_tick};
 ghost use Rattle.ft_types.specs.Work as work_of;
 ghost use Rattle.ft_replay.specs.Range.{IsVoiceInRange};
 ghost use Rattle.ft_replay.specs.Sound as sound;
@@ -20,7 +21,7 @@ pub fn mix<V: SongView>(view: &mut V, voices: &mut ArrayVec<Voice, 32>, out: &mu
     requires voices { All (mixing.IsMixed (V.keeps view.old) (length (V.holds view.old)))
         voices.old.items }
     requires even { length out.old % 2 ≡ 0 }
-    requires room { length out.old ≤ 7502 }
+    requires room { length out.old ≤ room_of_tick }
     ensures sound { (w : V.World) → V.shows view.new w → V.shows view.old w
         × (V.shown view.new w
         ≡ sound.shown_after (length out.old / 2) voices.old.items (V.shown view.old w))

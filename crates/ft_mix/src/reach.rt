@@ -1,6 +1,7 @@
 //! The places of a sample that are reached, and their values.
 
 ghost use Rattle.std.specs.Prelude.{◌≡◌, ◌≤◌, ◌<◌, ◌+◌, ◌*◌, ℕ, None, IfSome, FitsSigned, length, get_or};
+ghost use Rattle.ft_types.specs.Limits.{most_frames};
 ghost use Rattle.ft_types.specs.Valid.{width_of, IsValidHead, IsValidLoop};
 ghost use Rattle.ft_types.specs.Work as work_of;
 ghost use Rattle.ft_replay.specs.Sound as sound;
@@ -10,7 +11,7 @@ use ft_types::{SampleHead, SongView};
 
 /// The steps of a turn of a loop, at least 1, after which it is at its first frame again.
 pub fn turn(head: &SampleHead) -> u32
-    requires few { head.now.frames ≤ 3932160 }
+    requires few { head.now.frames ≤ most_frames }
     requires looping { IsValidLoop head.now.loop_kind head.now.loop_start head.now.loop_len
         head.now.frames }
     requires looped { 1 ≤ head.now.loop_kind }
@@ -26,7 +27,7 @@ pub fn turn(head: &SampleHead) -> u32
 
 /// The frame of a loop, from its first, that many steps into a turn.
 fn reflected(head: &SampleHead, steps: u32) -> u32
-    requires few { head.now.frames ≤ 3932160 }
+    requires few { head.now.frames ≤ most_frames }
     requires looping { IsValidLoop head.now.loop_kind head.now.loop_start head.now.loop_len
         head.now.frames }
     requires looped { 1 ≤ head.now.loop_kind }
@@ -57,7 +58,7 @@ pub fn end(head: &SampleHead) -> u32
 /// always where the sample has no frames.
 #[tactic(auto, unfolding(ft_replay::specs::Sound::place_of))]
 pub fn place(head: &SampleHead, i: u32) -> Option<u32>
-    requires few { head.now.frames ≤ 3932160 }
+    requires few { head.now.frames ≤ most_frames }
     requires looping { IsValidLoop head.now.loop_kind head.now.loop_start head.now.loop_len
         head.now.frames }
     ensures value { result ≡ sound.place_of head.now i }

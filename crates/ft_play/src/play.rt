@@ -2,6 +2,7 @@
 
 ghost use Rattle.std.specs.Prelude.{◌≡◌, ◌≤◌, ◌+◌, ◌*◌, ℕ, All, length, take, drop};
 ghost use Rattle.std.specs.List.{sum_by};
+ghost use Rattle.ft_types.specs.Limits.{lowest_rate, highest_rate, longest_tick};
 ghost use Rattle.ft_types.specs.Work.{frame_bound};
 ghost use Rattle.ft_mix.specs.Mixing.{IsMixed, voice_cost};
 ghost use Rattle.ft_replay.specs.Calls as calls;
@@ -28,7 +29,7 @@ fn mix_front<V: SongView>(
     out: &mut [i16],
 )
     requires voices { All (IsMixed (V.keeps view.old) (length (V.holds view.old))) voices.old.items }
-    requires few { frames ≤ 3750 }
+    requires few { frames ≤ longest_tick }
     requires room { 2 * frames ≤ length out.old }
     ensures sound { (w : V.World) → V.shows view.new w → V.shows view.old w
         × (V.shown view.new w ≡ sound.shown_after frames voices.old.items (V.shown view.old w))
@@ -78,8 +79,8 @@ pub fn play_tick<V: SongView>(
     out: &mut [i16],
 ) -> Place
     requires wide { song.old.used ≡ length (V.holds view.old) }
-    requires low { 8000 ≤ rate }
-    requires high { rate ≤ 48000 }
+    requires low { lowest_rate ≤ rate }
+    requires high { rate ≤ highest_rate }
     requires range { IsSongInRange song.old }
     requires kept { calls.AreVoicesKept (V.keeps view.old) song.old.voices.items }
     requires room { 7500 ≤ length out.old }
@@ -105,7 +106,7 @@ pub fn play_tick<V: SongView>(
     ensures used { song.new.used ≡ song.old.used }
     ensures past { drop song.old.used song.new.channels ≡ drop song.old.used song.old.channels }
     ensures some_frames { 1 ≤ result.frames }
-    ensures few_frames { result.frames ≤ 3750 }
+    ensures few_frames { result.frames ≤ longest_tick }
     ensures work { (V.work view.old ≤ V.work view.new)
         × (V.work view.new ≤ V.work view.old + play_bound song.old.used result.frames) }
     ensures cost { V.work view.new ≤ V.work view.old

@@ -1,5 +1,6 @@
 -- What contracts see of a player, and what it makes of a tick.
 use Rattle.std.specs.Prelude.{◌≡◌, ◌⊎◌, ◌≤◌, ℕ, ℤ, ◌*◌, ◌++◌, ◌∷◌, [], List, Option, None, Some, Contains, take, length, get_or, is_some, map, replicate}
+use Rattle.ft_types.specs.Limits.{lowest_rate, highest_rate}
 use Rattle.ft_types.specs.declared.tick_report.TickReport.{TickReport}
 use Rattle.ft_types.specs.declared.voice.SampleHead.{SampleHead}
 use Rattle.ft_types.specs.declared.voice.Voice.{Voice}
@@ -41,8 +42,8 @@ KeepsHead seats channel head = head_in (get_or seats channel None) ≡ Some head
 -- taken by it. There is a pin exactly where a voice sounds: it names the sample of the seat, from
 -- the version in which the voice began
 pub record IsInOrder (player : PlayerState) : Type 0 where
-  pub low : 8000 ≤ player.rate
-  pub high : player.rate ≤ 48000
+  pub low : lowest_rate ≤ player.rate
+  pub high : player.rate ≤ highest_rate
   pub used : player.song.used ≡ player.pass.register.sizes.channels
   pub range : IsSongInRange player.song
   pub taken : (taken : TakenVersion) → player.pass.notes.held ≡ Some taken

@@ -1,6 +1,7 @@
 //! A player: it plays a song tick by tick from the words of a register.
 
 ghost use Rattle.std.specs.Prelude.{◌≡◌, ◌≤◌, ◌+◌, ◌++◌, ◌∷◌, [], None, length, replicate};
+ghost use Rattle.ft_types.specs.Limits.{lowest_rate, highest_rate};
 ghost use Rattle.ft_replay.specs.State.{first_state};
 ghost use Rattle.ft_player.specs.declared.songs.Songs.{Songs};
 ghost use Rattle.ft_shared.specs.Layout.{current_at};
@@ -53,8 +54,8 @@ impl Player {
         requires unpinned { pass.notes.pins ≡ replicate channels None }
         requires channels { channels ≡ pass.register.sizes.channels }
         requires few { channels ≤ 32 }
-        requires low { 8000 ≤ rate }
-        requires high { rate ≤ 48000 }
+        requires low { lowest_rate ≤ rate }
+        requires high { rate ≤ highest_rate }
         ensures pass { result.pass ≡ pass }
         ensures rate { result.rate ≡ rate }
         ensures first { (songs : Songs) → stood_by songs result ≡ first_state channels }

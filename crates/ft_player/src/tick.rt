@@ -1,6 +1,7 @@
 //! A tick of a player.
 
 ghost use Rattle.std.specs.Prelude.{◌≡◌, ◌≤◌, ◌+◌, ◌*◌, ◌++◌, true, All, length, drop};
+ghost use Rattle.ft_types.specs.Limits.{longest_tick, room_of_tick};
 ghost use Rattle.ft_types.specs.declared.voice.Voice.{Voice};
 ghost use Rattle.ft_mix.specs.Mixing.{is_slow};
 ghost use Rattle.ft_image.specs.Passes.{AreCounted};
@@ -29,7 +30,7 @@ impl Player {
         steps: &mut Steps<L>,
     ) -> TickReport
         requires same { self.old.pass.register ≡ shared.now }
-        requires room { 7502 ≤ length out.old }
+        requires room { room_of_tick ≤ length out.old }
         ensures played { ForAllBehind self.old self.new
             (λ songs. IsPlayed songs self.old self.new result out.new) }
         ensures looked { HasLooked self.old.pass.notes self.new.pass.notes result.version }
@@ -39,7 +40,7 @@ impl Player {
         ensures rest { drop (2 * result.frames) out.new ≡ drop (2 * result.frames) out.old }
         ensures many { length out.new ≡ length out.old }
         ensures some_frames { 1 ≤ result.frames }
-        ensures few_frames { result.frames ≤ 3750 }
+        ensures few_frames { result.frames ≤ longest_tick }
         ensures counted { AreCounted self.old.pass self.new.pass steps.old steps.new }
         ensures steps { (steps.old ≤ steps.new) × (steps.new ≤ steps.old
             + step_bound self.old.pass.register.sizes.channels result.frames) }

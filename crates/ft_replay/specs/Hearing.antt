@@ -2,6 +2,7 @@
 -- automatic vibrato and fade go on.
 use Rattle.std.specs.Prelude.{ℕ, ◌+◌, ◌-◌, ◌*◌, ◌/◌, ◌%◌, ◌^◌, ◌==◌, ◌&&◌, ◌||◌, ℤ, pos, ◌+ℤ◌, ◌-ℤ◌, ◌*ℤ◌, Bool, true, Option, Some, None, min, nat_abs, nat_le, if◌then◌else◌}
 use Rattle.std.specs.Int.{int_min, int_max}
+use Rattle.ft_types.specs.Limits.{highest_period}
 use Rattle.ft_types.specs.declared.module.Module.{Module}
 use Rattle.ft_types.specs.declared.instrument.Envelope.{Envelope}
 use Rattle.ft_types.specs.declared.instrument.Shape.{Shape}
@@ -74,7 +75,7 @@ stepped_period linear channel =
 -- with what a vibrato and the automatic vibrato add: 1 to 31,999
 unfoldable pub heard_period : Bool → ℤ → Channel → ℕ
 heard_period linear offset channel =
-    brought_into (pos 1) (pos 31999) ((stepped_period linear channel +ℤ channel.vib_off) +ℤ offset)
+    brought_into (pos 1) (pos highest_period) ((stepped_period linear channel +ℤ channel.vib_off) +ℤ offset)
 
 -- ---- the automatic vibrato
 

@@ -1,5 +1,6 @@
 -- Which states are in range. Nothing here speaks of what a view keeps.
 use Rattle.std.specs.Prelude.{ℕ, ◌≡◌, ◌<◌, ◌≤◌, ◌+◌, ◌*◌, ◌^◌, List, None, Some, IfSome, All, length, get_or}
+use Rattle.ft_types.specs.Limits.{highest_period}
 use Rattle.ft_types.specs.declared.voice.Voice.{Voice}
 use Rattle.ft_types.specs.Valid.{IsBytes, IsValidCell, IsValidHead}
 use Rattle.ft_replay.specs.declared.state.Channel.{Channel}
@@ -25,8 +26,8 @@ pub record IsMemoryInRange (channel : Channel) : Type 0 where
   pub cell : IsValidCell channel.cell
   pub vol : channel.vol ≤ 64
   pub pan : channel.pan < 256
-  pub period : channel.period ≤ 31999
-  pub target : channel.target ≤ 31999
+  pub period : channel.period ≤ highest_period
+  pub target : channel.target ≤ highest_period
   pub vib_pos : channel.vib_pos ≤ 63
   pub vib_kind : channel.vib_kind ≤ 7
   pub vib_speed : channel.vib_speed ≤ 15

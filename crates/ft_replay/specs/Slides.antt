@@ -1,5 +1,6 @@
 -- What moves a period, a volume or a panning.
 use Rattle.std.specs.Prelude.{ℕ, ◌+◌, ◌-◌, ◌*◌, ◌==◌, ◌||◌, true, min, max, nat_lt, if◌then◌else◌}
+use Rattle.ft_types.specs.Limits.{highest_period}
 use Rattle.ft_replay.specs.declared.state.Channel.{Channel}
 use Rattle.ft_replay.specs.Effects.{high, low}
 use Rattle.ft_replay.specs.Memory as memory
@@ -11,7 +12,7 @@ abbrev pub lowered : ℕ → ℕ → ℕ
 lowered amount period = if period == 0 then 0 else max 1 (period - amount)
 
 abbrev pub raised : ℕ → ℕ → ℕ
-raised amount period = if period == 0 then 0 else min 31999 (period + amount)
+raised amount period = if period == 0 then 0 else min highest_period (period + amount)
 
 abbrev pub with_lower_period : ℕ → Channel → Channel
 with_lower_period amount channel = record channel { period = lowered amount channel.period }

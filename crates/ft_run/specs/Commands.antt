@@ -1,6 +1,7 @@
 -- What the words of a command line ask for.
 use Rattle.std.specs.Prelude.{◌≤◌, map, string_bytes, ℕ, List, String}
 use Rattle.std.specs.declared.alloc.Global.{Global}
+use Rattle.ft_types.specs.Limits.{lowest_rate, highest_rate}
 use Rattle.ft_words.specs.declared.answer.Step.{Step}
 use Rattle.ft_words.specs.declared.answer.Asked.TheVariants as ask
 use Rattle.ft_words.specs.Answer.{IsAskedBy}
@@ -20,7 +21,7 @@ AskForGen words = (number : ℕ) × IsAskedBy words (ask.Gen number)
 
 -- the rate and the seconds with which a song can be played
 pub record IsPlayable (step : Step) : Type 0 where
-  pub low_rate : 8000 ≤ step.rate
-  pub high_rate : step.rate ≤ 48000
+  pub low_rate : lowest_rate ≤ step.rate
+  pub high_rate : step.rate ≤ highest_rate
   pub some_seconds : 1 ≤ step.seconds
   pub few_seconds : step.seconds ≤ 1200

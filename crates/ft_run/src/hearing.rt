@@ -1,6 +1,7 @@
 //! Playing tick by tick, and what hears it.
 
 ghost use Rattle.std.specs.Prelude.{◌≡◌, ◌≤◌, ◌<◌, ◌++◌, [], ℕ, ℤ, List, OnOk, OnErr, IfOk, length};
+ghost use Rattle.ft_types.specs.Limits.{lowest_rate, highest_rate};
 ghost use Rattle.ft_types.specs.Valid.{IsValid};
 ghost use Rattle.ft_replay.specs.Replay.{sound_of_song};
 ghost use Rattle.ft_run.specs.Measure.{ticks_of_song};
@@ -91,8 +92,8 @@ pub fn play_stage<E: Listener, L: Ledger>(
     requires blank { (blank.name ≡ L.name) × (blank.parts ≡ L.parts) × (0 < L.parts) }
     requires set { IsSet song.now stage }
     requires valid { IsValid song.now }
-    requires low { 8000 ≤ rate }
-    requires high { rate ≤ 48000 }
+    requires low { lowest_rate ≤ rate }
+    requires high { rate ≤ highest_rate }
     ensures ticks { IfOk result (λ count. count ≡ ticks_of_song song.now frames rate) }
     ensures whole { IfOk result (λ count.
         E.heard ear.old ear.new (sound_of_song song.now frames rate)) }

@@ -1,6 +1,7 @@
 //! A song that is played and not written: how many ticks it took, and how loud it was.
 
 ghost use Rattle.std.specs.Prelude.{◌≡◌, ◌≤◌, fold, IfOk};
+ghost use Rattle.ft_types.specs.Limits.{lowest_rate, highest_rate};
 ghost use Rattle.ft_types.specs.Blocks.{blocks_of};
 ghost use Rattle.ft_types.specs.Valid.{IsValid};
 ghost use Rattle.ft_run.specs.Measure.{louder, peak_of_song, ticks_of_song};
@@ -62,8 +63,8 @@ impl Listener for Peak {
 pub fn measured(alloc: Global, song: &Module, rate: u32, frames: u32) -> Result<Measure, NoMemory>
     requires valid { IsValid song.now }
     requires few { blocks_of song.now ≤ 16384 }
-    requires low { 8000 ≤ rate }
-    requires high { rate ≤ 48000 }
+    requires low { lowest_rate ≤ rate }
+    requires high { rate ≤ highest_rate }
     ensures ticks { IfOk result (λ measure. measure.ticks ≡ ticks_of_song song.now frames rate) }
     ensures peak { IfOk result (λ measure. measure.peak ≡ peak_of_song song.now frames rate) }
 {

@@ -2,6 +2,7 @@
 
 ghost use Rattle.std.specs.Prelude.{◌≡◌, ◌≤◌, OnOk, OnErr};
 ghost use Rattle.std.specs.Io.KnownBytes.{Appends};
+ghost use Rattle.ft_types.specs.Limits.{lowest_rate, highest_rate};
 ghost use Rattle.ft_types.specs.Valid.{IsValid};
 ghost use Rattle.ft_outer.specs.Counts.{HasCause};
 ghost use Rattle.ft_outer.specs.Pieces.{TakesFront};
@@ -57,8 +58,8 @@ fn put_song<W: Sink>(
 ) -> Result<(), WriteFault>
     requires set { IsSet song.now stage }
     requires valid { IsValid song.now }
-    requires low { 8000 ≤ rate }
-    requires high { rate ≤ 48000 }
+    requires low { lowest_rate ≤ rate }
+    requires high { rate ≤ highest_rate }
     ensures whole { OnOk result (Appends (W.held wav.old) (W.held wav.new)
         (sound_bytes (sound_of_song song.now frames rate))) }
     ensures front { OnErr result (TakesFront (W.held wav.old) (W.held wav.new)

@@ -1,6 +1,7 @@
 //! Frequencies of periods, and the steps of voices.
 
 ghost use Rattle.std.specs.Prelude.{◌≡◌, ◌≤◌, ◌<◌, ◌*◌, ◌/◌, ◌^◌, true, slice_index};
+ghost use Rattle.ft_types.specs.Limits.{lowest_rate, highest_period};
 ghost use Rattle.ft_tables.specs.Pitch as pitch;
 
 /// The powers of two by twelfths of an octave, of 65,536.
@@ -25,7 +26,7 @@ fn power_at(part: u32) -> u32
 /// Octaves are counted from 36 below the one of 8,363 Hz, so that none is negative.
 fn linear_frequency(period: u16) -> u64
     requires some { 1 ≤ period }
-    requires playable { period ≤ 31999 }
+    requires playable { period ≤ highest_period }
     ensures value { result ≡ pitch.linear_frequency_of period }
     ensures bounded { result < 2 ^ 36 }
 {
@@ -50,7 +51,7 @@ fn amiga_frequency(period: u16) -> u64
 #[tactic(auto, unfolding(crate::specs::Pitch::frequency16_of))]
 pub fn frequency16(linear: bool, period: u16) -> u64
     requires some { 1 ≤ period }
-    requires playable { period ≤ 31999 }
+    requires playable { period ≤ highest_period }
     ensures value { result ≡ pitch.frequency16_of linear period }
     ensures bounded { result ≤ 8363 * 1712 * 65536 }
     ensures by_linear { linear ≡ true → result < 2 ^ 36 }
@@ -99,9 +100,9 @@ pub fn amiga_higher(semitones: u8, period: u16) -> u16
 /// `rate` is at least 8,000 frames a second, and `period` 1 to 31,999.
 #[tactic(auto, unfolding(crate::specs::Pitch::step_of))]
 pub fn step_of(linear: bool, rate: u32, period: u16) -> u64
-    requires rate { 8000 ≤ rate }
+    requires rate { lowest_rate ≤ rate }
     requires some { 1 ≤ period }
-    requires playable { period ≤ 31999 }
+    requires playable { period ≤ highest_period }
     ensures value { result ≡ pitch.step_of linear rate period }
     ensures bounded { result < 2 ^ 43 }
 {

@@ -2,6 +2,7 @@
 
 ghost use Rattle.std.specs.Prelude.{◌≡◌, ◌≤◌, ◌<◌, ◌+◌, ◌*◌, ◌≤ℤ◌, ◌+ℤ◌, ◌-ℤ◌, ℕ, None, Some, IfSome, pos, negsuc, length, map, get_or, is_some};
 ghost use Rattle.std.specs.Int.{int_max};
+ghost use Rattle.ft_types.specs.Limits.{lowest_rate, highest_period};
 ghost use Rattle.ft_types.specs.declared.voice.SampleHead.{SampleHead};
 ghost use Rattle.ft_types.specs.Valid.{IsValidEnvelope, IsValidShape};
 ghost use Rattle.ft_replay.specs.Calls as calls;
@@ -47,9 +48,9 @@ fn shifted(panning: u8, shift: i32) -> u8
 
 /// A period brought into 1 to 31,999.
 fn within_period(z: i32) -> u16
-    ensures value { result ≡ hearing.brought_into (pos 1) (pos 31999) z }
+    ensures value { result ≡ hearing.brought_into (pos 1) (pos highest_period) z }
     ensures low { 1 ≤ result }
-    ensures high { result ≤ 31999 }
+    ensures high { result ≤ highest_period }
 {
     z.clamp(1, 31999) as u16
 }
@@ -114,7 +115,7 @@ fn heard_panning(panning: u8, envelope: u8) -> u8
 #[tactic(auto, unfolding(ft_replay::specs::Hearing::in_semitones))]
 fn in_semitones(distance: i32) -> i32
     requires low { negsuc 31998 ≤ℤ distance }
-    requires high { distance ≤ℤ pos 31999 }
+    requires high { distance ≤ℤ pos highest_period }
     ensures value { result ≡ hearing.in_semitones distance }
     ensures low { (distance -ℤ pos 31) ≤ℤ result }
     ensures high { result ≤ℤ (distance +ℤ pos 32) }
@@ -183,7 +184,7 @@ fn heard_period(channel: &Channel, linear: bool, offset: i32) -> u16
     requires high { offset ≤ℤ pos 14 }
     ensures value { result ≡ hearing.heard_period linear offset channel.now }
     ensures low { 1 ≤ result }
-    ensures high { result ≤ 31999 }
+    ensures high { result ≤ highest_period }
 {
     within_period(vibrated_period(channel, linear) + offset)
 }
@@ -216,7 +217,7 @@ fn heard_voice(
     requires volume { IfSome volume.now IsValidEnvelope }
     requires panning { IfSome panning.now IsValidEnvelope }
     requires global { time.global ≤ 64 }
-    requires rate { 8000 ≤ time.rate }
+    requires rate { lowest_rate ≤ time.rate }
     requires low { negsuc 13 ≤ℤ offset }
     requires high { offset ≤ℤ pos 14 }
     ensures value { result ≡ hearing.heard_voice time.linear time.rate time.global volume.now
@@ -334,7 +335,7 @@ fn sound(
     requires panning { IfSome panning.now IsValidEnvelope }
     requires shape { IfSome shape.now IsValidShape }
     requires global { time.global ≤ 64 }
-    requires rate { 8000 ≤ time.rate }
+    requires rate { lowest_rate ≤ time.rate }
     ensures value { channel.new ≡ hearing.heard_by time.rate time.global time.linear
         volume.now panning.now shape.now channel.old.voice channel.old }
     ensures range { (c : ℕ) → IsChannelInRange c channel.old → IsChannelInRange c channel.new }
@@ -360,7 +361,7 @@ fn hear_one<V: SongView>(
         → linear ≡ (V.shown view.old w).song.linear }
     requires range { (c : ℕ) × IsChannelInRange c channel.old }
     requires global { control.now.global ≤ 64 }
-    requires rate { 8000 ≤ rate }
+    requires rate { lowest_rate ≤ rate }
     ensures shows { calls.ShowsOn V.shows V.shown view.old view.new }
     ensures value { (w : V.World) → V.shows view.new w → channel.new
         ≡ hearing.heard_channel rate control.now (V.shown view.old w).song channel.old }
@@ -401,7 +402,7 @@ pub fn hear<V: SongView>(
         → linear ≡ (V.shown view.old w).song.linear }
     requires range { AreInRange channels.old }
     requires global { control.now.global ≤ 64 }
-    requires rate { 8000 ≤ rate }
+    requires rate { lowest_rate ≤ rate }
     ensures shows { calls.ShowsOn V.shows V.shown view.old view.new }
     ensures value { (w : V.World) → V.shows view.new w → channels.new
         ≡ map (hearing.heard_channel rate control.now (V.shown view.old w).song) channels.old }

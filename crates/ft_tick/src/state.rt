@@ -1,6 +1,7 @@
 //! The tick of a song between ticks.
 
 ghost use Rattle.std.specs.Prelude.{◌≡◌, ◌≤◌, ◌<◌, ◌+◌, length, take, drop};
+ghost use Rattle.ft_types.specs.Limits.{lowest_rate, highest_rate, longest_tick};
 ghost use Rattle.ft_replay.specs.Calls as calls;
 ghost use Rattle.ft_replay.specs.Range.{IsBetweenTicks, IsSongInRange};
 ghost use Rattle.ft_replay.specs.Standing.{seated, sequential_of, state_of};
@@ -23,8 +24,8 @@ fn tick_parts<V: SongView>(
     rate: u32,
 ) -> Place
     requires wide { used ≡ length (V.holds view.old) }
-    requires low { 8000 ≤ rate }
-    requires high { rate ≤ 48000 }
+    requires low { lowest_rate ≤ rate }
+    requires high { rate ≤ highest_rate }
     requires range { IsBetweenTicks used control.old channels.old voices.old.items }
     ensures made { calls.Makes V.shows V.shown
         (λ version song state. (tick.tick_state_of version song rate state).state) view.old view.new
@@ -39,7 +40,7 @@ fn tick_parts<V: SongView>(
     ensures range { IsBetweenTicks used control.new channels.new voices.new.items }
     ensures past { drop used channels.new ≡ drop used channels.old }
     ensures some_frames { 1 ≤ result.frames }
-    ensures few_frames { result.frames ≤ 3750 }
+    ensures few_frames { result.frames ≤ longest_tick }
     ensures work { (V.work view.old ≤ V.work view.new)
         × (V.work view.new ≤ V.work view.old + tick_bound used) }
     ensures same { V.same view.old view.new }
@@ -59,8 +60,8 @@ fn tick_parts<V: SongView>(
 /// where it had a voice does so again. Channels past the song's own stay as they are.
 pub fn tick_state<V: SongView>(view: &mut V, song: &mut SongState, rate: u32) -> Place
     requires wide { song.old.used ≡ length (V.holds view.old) }
-    requires low { 8000 ≤ rate }
-    requires high { rate ≤ 48000 }
+    requires low { lowest_rate ≤ rate }
+    requires high { rate ≤ highest_rate }
     requires range { IsSongInRange song.old }
     ensures made { calls.Makes V.shows V.shown
         (λ version a_song state. (tick.tick_state_of version a_song rate state).state)
@@ -77,7 +78,7 @@ pub fn tick_state<V: SongView>(view: &mut V, song: &mut SongState, rate: u32) ->
     ensures used { song.new.used ≡ song.old.used }
     ensures past { drop song.old.used song.new.channels ≡ drop song.old.used song.old.channels }
     ensures some_frames { 1 ≤ result.frames }
-    ensures few_frames { result.frames ≤ 3750 }
+    ensures few_frames { result.frames ≤ longest_tick }
     ensures work { (V.work view.old ≤ V.work view.new)
         × (V.work view.new ≤ V.work view.old + tick_bound song.old.used) }
     ensures same { V.same view.old view.new }

@@ -1,6 +1,7 @@
 //! The state of a tick, up to its sound, while its voices sit in their channels.
 
 ghost use Rattle.std.specs.Prelude.{◌≡◌, ◌≤◌, ◌<◌, ◌+◌, ◌*◌, ℕ, List, length};
+ghost use Rattle.ft_types.specs.Limits.{lowest_rate, highest_rate, longest_tick};
 ghost use Rattle.ft_types.specs.Views.{Shown};
 ghost use Rattle.ft_replay.specs.declared.state.Channel.{Channel as AChannel};
 ghost use Rattle.ft_replay.specs.Calls as calls;
@@ -28,8 +29,8 @@ pub fn make_tick<V: SongView>(
 ) -> Place
     requires few { length channels.old ≤ 32 }
     requires wide { length channels.old ≤ length (V.holds view.old) }
-    requires low { 8000 ≤ rate }
-    requires high { rate ≤ 48000 }
+    requires low { lowest_rate ≤ rate }
+    requires high { rate ≤ highest_rate }
     requires range { IsInRange control.old channels.old }
     ensures made { calls.Makes V.shows V.shown
         (λ version song state. (tick.tick_state_of version song rate state).state) view.old view.new
@@ -41,7 +42,7 @@ pub fn make_tick<V: SongView>(
         (V.holds view.old) (V.holds view.new) channels.old channels.new }
     ensures range { IsInRange control.new channels.new }
     ensures some_frames { 1 ≤ result.frames }
-    ensures few_frames { result.frames ≤ 3750 }
+    ensures few_frames { result.frames ≤ longest_tick }
     ensures work { (V.work view.old ≤ V.work view.new)
         × (V.work view.new ≤ V.work view.old + tick_bound (length channels.old)) }
     ensures same { V.same view.old view.new }

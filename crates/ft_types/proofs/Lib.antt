@@ -1,3 +1,4 @@
+pub mod KindsByName
 mod Orders
 mod Refills
 mod Signed

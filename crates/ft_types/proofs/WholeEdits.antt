@@ -1,5 +1,5 @@
 -- An edit is the edit of its parts, and parts that follow the table are those of their edit.
-use Rattle.std.proofs.Common.{◌≡◌, ℕ, zero, suc, ◌+◌, ◌-◌, ◌^◌, ◌<◌, ◌≤◌, List, [], ◌∷◌, ◌++◌, length, take, replicate, ℤ, pos, negsuc, refl, sym, ap, ◌∙◌, arith, Some, FitsSigned, w8, w16}
+use Rattle.std.proofs.Common.{◌≡◌, ℕ, ◌+◌, ◌^◌, ◌≤◌, List, [], ◌∷◌, length, replicate, ℤ, pos, negsuc, refl, sym, ap, ◌∙◌, arith, Some}
 use Rattle.std.proofs.lemmas.Bool.{cond-true, le-leb}
 use Rattle.std.proofs.lemmas.List.{take-append-le, take_all}
 use Rattle.ft_types.specs.declared.edit.Edit.{Edit}
@@ -11,7 +11,7 @@ use Rattle.ft_types.specs.declared.edit_kind.NumberType.TheVariants.{U8, U16, U3
 use Rattle.ft_types.specs.declared.edit_kind.LastType.{LastType}
 use Rattle.ft_types.specs.declared.edit_kind.LastType.TheVariants.{Nothing, Title, Name, Frames}
 use Rattle.ft_types.specs.Edits.{IsGivable}
-use Rattle.ft_types.specs.Signatures.{signature, kind_named, kind_among, every_kind, IsOfType, AreOfTypes, IsNaturalBelow, natural_to, signed_to, clip, clipped_numbers, first_number, later_numbers, natural, at, padded}
+use Rattle.ft_types.specs.Signatures.{signature, kind_named, IsOfType, AreOfTypes, IsNaturalBelow, natural_to, signed_to, clip, clipped_numbers, first_number, later_numbers, natural, at, padded}
 use Rattle.ft_types.specs.EditParts.{InParts, edit_parts, edit_with, edit_of, IsLastPart, FollowsTable, EditHasRanges, AreGiven}
 
 -- ---- numbers

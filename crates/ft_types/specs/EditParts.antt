@@ -1,5 +1,5 @@
 -- An edit in parts: its kind and its arguments.
-use Rattle.std.specs.Prelude.{◌≡◌, ◌↔◌, ℕ, ◌≤◌, length, Option, Some, ℤ, pos, List, [], ◌∷◌, All, FitsSigned}
+use Rattle.std.specs.Prelude.{◌≡◌, ◌↔◌, ℕ, ◌≤◌, length, Some, ℤ, pos, List, [], ◌∷◌, All, FitsSigned}
 use Rattle.std.specs.Int.{w16}
 use Rattle.ft_types.specs.declared.edit.Edit.{Edit}
 use Rattle.ft_types.specs.declared.edit.Edit.TheVariants as edits

@@ -1,3 +1,4 @@
+pub mod Limits
 pub mod Valid
 pub mod Views
 pub mod Work

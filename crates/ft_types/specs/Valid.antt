@@ -1,6 +1,7 @@
 -- Which modules are valid: each value is in the range that the format gives it.
 use Rattle.std.specs.Prelude.{◌≡◌, ℕ, ◌<◌, ◌≤◌, ◌+◌, ◌*◌, List, length, All, Bool, FitsSigned, if◌then◌else◌}
 use Rattle.std.specs.Int.{Width, w8, w16}
+use Rattle.ft_types.specs.Limits.{most_channels, most_orders, most_patterns, most_rows, most_instruments, most_samples, most_frames}
 use Rattle.ft_types.specs.declared.module.Module.{Module}
 use Rattle.ft_types.specs.declared.pattern.Pattern.{Pattern}
 use Rattle.ft_types.specs.declared.pattern.Cell.{Cell}
@@ -31,7 +32,7 @@ pub record IsValidCell (cell : Cell) : Type 0 where
 -- a cell for each row and channel
 pub record IsValidPattern (channels : ℕ) (pattern : Pattern) : Type 0 where
   pub some_rows : 1 ≤ pattern.rows
-  pub few_rows : pattern.rows ≤ 256
+  pub few_rows : pattern.rows ≤ most_rows
   pub whole : length pattern.cells ≡ pattern.rows * channels
   pub cells : All IsValidCell pattern.cells
 
@@ -77,7 +78,7 @@ pub record IsValidSample (sample : Sample) : Type 0 where
   pub panning : sample.panning < 256
   pub looping : IsValidLoop sample.loop_kind sample.loop_start sample.loop_len
       (length sample.frames)
-  pub few_frames : length sample.frames ≤ 3932160
+  pub few_frames : length sample.frames ≤ most_frames
   pub frames : All (FitsSigned (width_of sample.wide)) sample.frames
 
 abbrev pub IsZeroPoint : Point → Type 0
@@ -110,7 +111,7 @@ pub record IsValidInstrument (instrument : Instrument) : Type 0 where
   pub panning : IsValidEnvelope instrument.panning
   pub vibrato : IsValidVibrato instrument.vibrato
   pub fadeout : instrument.fadeout < 65536
-  pub few_samples : length instrument.samples ≤ 16
+  pub few_samples : length instrument.samples ≤ most_samples
   pub samples : All IsValidSample instrument.samples
   pub without : length instrument.samples ≡ 0 → IsZeroInstrument instrument
 
@@ -120,18 +121,18 @@ pub record IsValid (song : Module) : Type 0 where
   pub name : IsBytes 20 song.name
   pub tracker : IsBytes 20 song.tracker
   pub some_orders : 1 ≤ length song.orders
-  pub few_orders : length song.orders ≤ 256
+  pub few_orders : length song.orders ≤ most_orders
   pub orders : All (λ order. order < 256) song.orders
   pub restart : song.restart < length song.orders
   pub some_channels : 1 ≤ song.channels
-  pub few_channels : song.channels ≤ 32
+  pub few_channels : song.channels ≤ most_channels
   pub some_tempo : 1 ≤ song.tempo
   pub low_tempo : song.tempo ≤ 31
   pub some_bpm : 32 ≤ song.bpm
   pub low_bpm : song.bpm ≤ 255
-  pub few_patterns : length song.patterns ≤ 256
+  pub few_patterns : length song.patterns ≤ most_patterns
   pub patterns : All (IsValidPattern song.channels) song.patterns
-  pub few_instruments : length song.instruments ≤ 128
+  pub few_instruments : length song.instruments ≤ most_instruments
   pub instruments : All IsValidInstrument song.instruments
 
 -- ---- what is read of a song while it plays
@@ -139,7 +140,7 @@ pub record IsValid (song : Module) : Type 0 where
 -- the head of a valid song
 pub record IsValidSongHead (head : SongHead) : Type 0 where
   pub some_orders : 1 ≤ head.length
-  pub few_orders : head.length ≤ 256
+  pub few_orders : head.length ≤ most_orders
   pub restart : head.restart < head.length
   pub some_tempo : 1 ≤ head.tempo
   pub low_tempo : head.tempo ≤ 31
@@ -154,7 +155,7 @@ pub record IsValidShape (shape : Shape) : Type 0 where
 -- the head of a valid sample with frames: one that can sound
 pub record IsValidHead (head : SampleHead) : Type 0 where
   pub some_frames : 1 ≤ head.frames
-  pub few_frames : head.frames ≤ 3932160
+  pub few_frames : head.frames ≤ most_frames
   pub looping : IsValidLoop head.loop_kind head.loop_start head.loop_len head.frames
   pub volume : head.volume ≤ 64
   pub panning : head.panning < 256

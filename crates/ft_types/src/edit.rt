@@ -1,13 +1,14 @@
 //! Edits: the changes of a song that a hand can ask for.
 
 use crate::sample::Frames;
+use std::fmt;
 
 /// One change of a module.
 ///
 /// Patterns and samples count from 0, instruments from 1. A value may be out of the range that is
 /// given here: then the edit is refused, and its fault says why. A block is `h` rows of `w`
 /// channels from row `r` and channel `c` of pattern `p`.
-#[derive(Debug, Drop)]
+#[derive(Drop)]
 pub enum Edit {
     /// Sets a cell.
     Cell {
@@ -319,4 +320,11 @@ pub enum Edit {
         /// 8 or 16.
         b: u8,
     },
+}
+
+/// The name of its kind alone.
+impl fmt::Debug for Edit {
+    fn fmt<W: fmt::Write>(&self, f: &mut fmt::Formatter<W>) -> fmt::Result {
+        f.write_str(self.kind().name())
+    }
 }

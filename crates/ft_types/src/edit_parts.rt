@@ -4,8 +4,8 @@ ghost use Rattle.std.specs.Prelude.{◌≡◌, ◌<◌, ◌≤◌, All, FitsSign
 ghost use Rattle.std.specs.Int.{w16};
 ghost use Rattle.ft_types.specs.Valid.{IsBytes};
 ghost use Rattle.ft_types.specs.declared.edit_kind.NumberType.TheVariants as types;
-ghost use Rattle.ft_types.specs.Signatures.{signature, kind_named, kind_among, clip, natural, at, padded};
-ghost use Rattle.ft_types.specs.EditParts.{edit_parts, edit_of, EditHasRanges};
+ghost use Rattle.ft_types.specs.Signatures.{signature, AreOfTypes, clip, natural, at, padded};
+ghost use Rattle.ft_types.specs.EditParts.{edit_parts, edit_of, IsLastPart, EditHasRanges};
 
 use crate::edit::Edit;
 use crate::edit_kind::{EditKind, LastType, NumberType};
@@ -71,12 +71,6 @@ macro_rules! last_type {
     ($last:ident) => { LastType::$last };
 }
 
-macro_rules! kinds {
-    (() $($kind:ident $name:literal [$($n:ident $t:ident $i:literal),*] $($last:ident $l:ident)?;)*) => {
-        [$(EditKind::$kind),*]
-    };
-}
-
 macro_rules! name_of {
     (($of:expr) $($kind:ident $name:literal [$($n:ident $t:ident $i:literal),*] $($last:ident $l:ident)?;)*) => {
         match $of { $(EditKind::$kind => $name,)* }
@@ -95,30 +89,15 @@ macro_rules! last_of {
     };
 }
 
-macro_rules! name_in {
-    () => { &[] };
-    (Title $name:ident) => { bytes_of($name) };
-    (Name $name:ident) => { bytes_of($name) };
-    (Frames $frames:ident) => { &[] };
-}
-
-macro_rules! frames_in {
-    () => { &[] };
-    (Title $name:ident) => { &[] };
-    (Name $name:ident) => { &[] };
-    (Frames $frames:ident) => { all_of($frames.as_slice()) };
-}
-
-macro_rules! parts_of {
+macro_rules! kind_of {
     (($edit:expr) $($kind:ident $name:literal [$($n:ident $t:ident $i:literal),*] $($last:ident $l:ident)?;)*) => {
-        match $edit {
-            $(Edit::$kind { $($n,)* $($l)? } => EditParts {
-                kind: EditKind::$kind,
-                numbers: list(&[$(i64::from(*$n)),*]),
-                name: name_in!($($last $l)?),
-                frames: frames_in!($($last $l)?),
-            },)*
-        }
+        match $edit { $(Edit::$kind { .. } => EditKind::$kind,)* }
+    };
+}
+
+macro_rules! numbers_in {
+    (($edit:expr) $($kind:ident $name:literal [$($n:ident $t:ident $i:literal),*] $($last:ident $l:ident)?;)*) => {
+        match *$edit { $(Edit::$kind { $($n,)* .. } => list([$($n as i64),*]),)* }
     };
 }
 
@@ -139,30 +118,7 @@ macro_rules! made {
     };
 }
 
-/// Every kind.
-static KINDS: [EditKind; 34] = edits!(kinds());
-
 impl EditKind {
-    /// The kind of this name in a list.
-    fn among(kinds: &[EditKind], name: &[u8]) -> Option<EditKind>
-        ensures { result ≡ kind_among kinds.now name.now }
-    {
-        for kind in kinds {
-            if name == kind.name().as_bytes() {
-                return Some(*kind);
-            }
-        }
-        None
-    }
-
-    /// The kind of this name, if there is one.
-    #[tactic(auto, unfolding(crate::specs::Signatures::kind_named))]
-    pub fn named(name: &[u8]) -> Option<EditKind>
-        ensures { result ≡ kind_named name.now }
-    {
-        EditKind::among(&KINDS, name)
-    }
-
     /// The name of this kind.
     pub fn name(self) -> &'static str
         ensures { result.now ≡ (signature self).name }
@@ -200,12 +156,12 @@ pub struct EditParts<'a> {
 }
 
 /// These numbers.
-fn list(numbers: &[i64]) -> ArrayVec<i64, 11>
-    requires { length numbers.now ≤ 11 }
-    ensures { result.items ≡ numbers.now }
+fn list<const N: usize>(numbers: [i64; N]) -> ArrayVec<i64, 11>
+    requires { N ≤ 11 }
+    ensures { result.items ≡ numbers.entry }
 {
     let mut list = ArrayVec::new();
-    let _ = list.try_extend_from_slice(numbers);
+    let _ = list.try_extend_from_slice(&numbers);
     list
 }
 
@@ -300,6 +256,39 @@ fn copy_frames(frames: &[i16], alloc: Global) -> Result<Frames, NoMemory>
 }
 
 impl Edit {
+    /// The kind of an edit.
+    pub(crate) fn kind(&self) -> EditKind
+        ensures { result ≡ (edit_parts self.now).kind }
+    {
+        edits!(kind_of(self))
+    }
+
+    /// The numbers of an edit, in order.
+    fn numbers(&self) -> ArrayVec<i64, 11>
+        ensures value { result.items ≡ (edit_parts self.now).numbers }
+        ensures ranges { AreOfTypes (signature (edit_parts self.now).kind).numbers
+            (edit_parts self.now).numbers }
+    {
+        edits!(numbers_in(self))
+    }
+
+    /// What an edit has behind its numbers: its name and its frames, each of them empty where it
+    /// has none.
+    fn last(&self) -> (&[u8], &[i16])
+        ensures name { result.0.now ≡ (edit_parts self.now).name }
+        ensures frames { result.1.now ≡ (edit_parts self.now).frames }
+        ensures ranges { IsLastPart (signature (edit_parts self.now).kind).last
+            (edit_parts self.now).name (edit_parts self.now).frames }
+    {
+        match self {
+            Edit::Title { name } => (bytes_of(name), &[]),
+            Edit::Insname { name, .. } => (bytes_of(name), &[]),
+            Edit::Smpname { name, .. } => (bytes_of(name), &[]),
+            Edit::Paste { frames, .. } => (&[], all_of(frames.as_slice())),
+            _ => (&[], &[]),
+        }
+    }
+
     /// The parts of an edit.
     pub fn parts(&self) -> EditParts
         ensures kind { result.kind ≡ (edit_parts self.now).kind }
@@ -308,7 +297,13 @@ impl Edit {
         ensures frames { result.frames.now ≡ (edit_parts self.now).frames }
         ensures ranges { EditHasRanges self.now }
     {
-        edits!(parts_of(self))
+        let (name, frames) = self.last();
+        EditParts {
+            kind: self.kind(),
+            numbers: self.numbers(),
+            name,
+            frames,
+        }
     }
 
     /// The edit of these parts. A number that its type doesn't hold becomes 0, and a name is cut or

@@ -1,6 +1,7 @@
 -- What words ask for.
 use Rattle.std.specs.Prelude.{◌≡◌, ◌≤◌, ℕ, List, [], ◌∷◌, Option, Some, codes}
 use Rattle.std.specs.Str.Parse.{IsNumeral, digits_value, without_leading_plus}
+use Rattle.ft_types.specs.Limits.{lowest_rate, highest_rate}
 use Rattle.clap.specs.Words.{App, Text, fault_of, matches_of, one_of}
 use Rattle.ft_words.specs.Commands.{copy_app, gen_app, step_app}
 use Rattle.ft_words.specs.Refused.{verb_named}
@@ -25,8 +26,8 @@ IsNumberOf app others id n =
 pub record AsksStep (others : List Text) (step : Step) : Type 0 where
   pub taken : fault_of step_app others ≡ []
   pub rate : IsNumberOf step_app others (codes "rate") step.rate
-  pub low_rate : 8000 ≤ step.rate
-  pub high_rate : step.rate ≤ 48000
+  pub low_rate : lowest_rate ≤ step.rate
+  pub high_rate : step.rate ≤ highest_rate
   pub seconds : IsNumberOf step_app others (codes "seconds") step.seconds
   pub some_seconds : 1 ≤ step.seconds
   pub few_seconds : step.seconds ≤ 1200

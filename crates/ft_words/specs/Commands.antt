@@ -1,5 +1,6 @@
 -- The three commands, as `clap` reads them.
 use Rattle.std.specs.Prelude.{ℕ, [], ◌∷◌, Some, true, codes, pos}
+use Rattle.ft_types.specs.Limits.{lowest_rate, highest_rate}
 use Rattle.clap.specs.Words.{App, Rule, Text, new_app, new_rule, with_rule}
 use Rattle.clap.specs.Simple.{on_top}
 use Rattle.clap.specs.declared.builder.action.ArgAction.TheVariants.{Set}
@@ -39,7 +40,7 @@ unfoldable pub step_app : App
 step_app =
     with_rule (with_rule (with_rule (with_rule (with_rule (with_rule (bare_app (codes "step"))
     (file_rule (codes "song"))) (file_rule (codes "wav"))) (file_rule (codes "ledger")))
-    (option_rule (codes "rate") (codes "44100") (numbers_within 8000 48000)))
+    (option_rule (codes "rate") (codes "44100") (numbers_within lowest_rate highest_rate)))
     (option_rule (codes "seconds") (codes "60") (numbers_within 1 1200)))
     (option_rule (codes "segments") (codes "16384") (numbers_within 64 65535))
 
