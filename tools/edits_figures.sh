@@ -20,7 +20,7 @@ read_batch() {
     local once often alone
     once=$(count "$bench" read 1 "$1")
     often=$(count "$bench" read 1001 "$1")
-    alone=$(count --toggle-collect=ft_text::read::read_batch "$bench" read 1000 "$1")
+    alone=$(count --toggle-collect=ft_lines::read::read_batch "$bench" read 1000 "$1")
     awk -v l="$1" -v a="$once" -v b="$often" -v c="$alone" 'BEGIN {
         n = length(l)
         printf "%-44s %5d %8.0f %8.1f %8.1f\n", substr(l, 1, 44), n, c / 1000, c / 1000 / n, (b - a) / 1000 / n

@@ -13,8 +13,8 @@ ghost use Rattle.ft_types.specs.Edits.{IsGivable};
 
 use anyhow::{Result, anyhow};
 use ft_check::apply_edit;
+use ft_lines::{TimedBatch, read_batch};
 use ft_songs::one_note_module;
-use ft_text::{TimedBatch, read_batch};
 use ft_types::{Edit, Module, valid};
 use std::alloc::Global;
 use std::env;

@@ -1,7 +1,7 @@
 //! Edits as lines of a script.
 
 use ft_check::{ApplyFault, apply_edit};
-use ft_text::read_edit;
+use ft_lines::read_edit;
 use ft_types::{EditFault, Module, valid};
 use std::alloc::Global;
 

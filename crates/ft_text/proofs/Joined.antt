@@ -1,27 +1,41 @@
 -- Lines put one after the other.
-use Rattle.std.proofs.Common.{◌≡◌, ℕ, zero, suc, ◌+◌, ◌<◌, List, [], ◌∷◌, ◌++◌, Some, None, length, get_or, take, map, refl, sym, ap, ◌∙◌, arith, append_assoc, add-one, codes}
+use Rattle.std.proofs.Common.{◌≡◌, ℕ, zero, suc, ◌+◌, ◌<◌, List, [], ◌∷◌, ◌++◌, Some, None, length, get_or, take, map, All, refl, sym, subst, ap, ◌∙◌, arith, append_assoc, add-one, codes}
 use Rattle.std.specs.List.{slice_get}
 use Rattle.std.specs.Fmt.{digits}
 use Rattle.std.proofs.lemmas.List.{take_more, map-append, flat_map_more, append-nil}
+use Rattle.std.proofs.lemmas.List.Elements.{All-more}
 use Rattle.std.proofs.lemmas.List.Concat.{flat_map-append}
 use Rattle.std.proofs.lemmas.Option.{slice_get_within, get_or_from_slice_get}
 use Rattle.ft_types.specs.declared.tick_report.TickReport.{TickReport}
 use Rattle.ft_text.specs.Ledger.{ended, joined_lines, head_line, tick_line, tick_lines}
 
--- one more line
+-- one more line, of the element at i
+pub item_line_more : {X : Type 0} (line : X → List ℕ) (all : List X) (i : ℕ) (d : X) (old before after : List ℕ)
+    → i < length all
+    → before ≡ old ++ joined_lines (map line (take i all))
+    → after ≡ before ++ ended (line (get_or all i d))
+    → after ≡ old ++ joined_lines (map line (take (i + 1) all))
+item_line_more line all i d old before after inside first step =
+    let x = get_or all i d in
+    let lines : map line (take (i + 1) all) ≡ map line (take i all) ++ line x ∷ [] =
+    ap (map line) (take_more all i d inside) ∙ map-append line (take i all) (x ∷ []) in
+    step ∙ ap (λ t. t ++ ended (line x)) first ∙ flat_map_more ended old (map line (take i all)) (line x)
+    ∙ sym (ap (λ ls. old ++ joined_lines ls) lines)
+
 pub line_more : {X : Type 0} (line : X → List ℕ) (all : List X) (i : ℕ) (x : X) (old before after : List ℕ)
     → Some x ≡ slice_get all i
     → before ≡ old ++ joined_lines (map line (take i all))
     → after ≡ before ++ ended (line x)
     → after ≡ old ++ joined_lines (map line (take (i + 1) all))
 line_more line all i x old before after found first step =
-    let inside : i < length all = slice_get_within all i x (sym found) in
-    let taken : take (i + 1) all ≡ take i all ++ x ∷ [] =
-    take_more all i x inside ∙ ap (λ y. take i all ++ y ∷ []) (get_or_from_slice_get all i x x (sym found)) in
-    let lines : map line (take (i + 1) all) ≡ map line (take i all) ++ line x ∷ [] =
-    ap (map line) taken ∙ map-append line (take i all) (x ∷ []) in
-    step ∙ ap (λ t. t ++ ended (line x)) first ∙ flat_map_more ended old (map line (take i all)) (line x)
-    ∙ sym (ap (λ ls. old ++ joined_lines ls) lines)
+    item_line_more line all i x old before after (slice_get_within all i x (sym found)) first
+    (step ∙ ap (λ y. before ++ ended (line y)) (sym (get_or_from_slice_get all i x x (sym found))))
+
+-- what holds of those that were passed, with one more
+pub all_more : {X : Type 0} (P : X → Type 0) (all : List X) (i : ℕ) (x : X) → Some x ≡ slice_get all i
+    → All P (take i all) → P x → All P (take (i + 1) all)
+all_more P all i x found passed is =
+    All-more P all i x (slice_get_within all i x (sym found)) passed (subst P (sym (get_or_from_slice_get all i x x (sym found))) is)
 
 -- there is nothing only past the end
 pub not_past : {X : Type 0} (all : List X) (i : ℕ) → None ≡ slice_get all i → i < length all → ⊥

@@ -7,16 +7,18 @@ use Rattle.ft_types.specs.declared.journal.Refusal.{Refusal}
 use Rattle.ft_types.specs.declared.tick_report.TickReport.{TickReport}
 use Rattle.ft_text.specs.declared.record.HandEnd.{HandEnd}
 use Rattle.ft_text.specs.declared.record.SavedLine.{SavedLine}
-use Rattle.ft_text.specs.Words.{numbers}
-use Rattle.ft_text.specs.Texts.{batch_text}
+use Rattle.ft_lines.specs.Words.{numbers}
+use Rattle.ft_lines.specs.Texts.{batch_text}
 use Rattle.ft_text.specs.Record.{Ascend, HasHandCause, CanBeRefused}
 use Rattle.ft_text.specs.Ledger.{entry_line, refusal_line, tick_line, tick_lines, hand_line, hand_cause, saved_line, end_line, cause_words}
 use Rattle.ft_text.specs.LedgerWords.{Taking, if_over, said, entry, refusal, tick, hand}
 use Rattle.ft_text.specs.LedgerReading.{LedgerPlace, one_line, line_or_wrong, lines_from, while_some, also, many}
 use Rattle.ft_text.specs.LedgerBack.{EntryHasRanges, RefusalHasRanges, TickHasRanges, HandHasRanges}
-use Rattle.ft_text.proofs.PlainBytes.{plain, plain_decimal, plain_numbers, words_append}
+use Rattle.ft_lines.specs.Plain.{plain}
+use Rattle.ft_text.proofs.PlainWords.{plain_numbers, words_append}
 use Rattle.ft_text.proofs.SplitsBack.{split, split_words, split_before}
 use Rattle.ft_text.proofs.LedgerLinesBack.{TextGives, TellsPlace, entry_back, refusal_back, tick_back, hand_back, cause_name, plain_cause}
+use Rattle.ft_text.specs.Known.{Known}
 
 abbrev pub at_place : ℕ → List (List ℕ) → LedgerPlace
 at_place at left = record { at = at; left = left }
@@ -82,43 +84,45 @@ many_back value moved state at xs lines rest are some stop =
 
 -- ---- which lines these are
 
-pub entries_are : (form : ℕ) (entries : List Entry) (state : ℕ) → All (λ e. TextGives form e.batch) entries → All EntryHasRanges entries
+pub entries_are : (known : Known) (form : ℕ) (entries : List Entry) (state : ℕ) → All (λ e. TextGives form e.batch) entries
+    → All EntryHasRanges entries
     → AreLines {S = ℕ} (λ s. said (entry form)) (λ s x. s) state entries (map entry_line entries)
-entries_are form [] state gives all = tt
-entries_are form (e ∷ entries) state gives all =
+entries_are known form [] state gives all = tt
+entries_are known form (e ∷ entries) state gives all =
     let Gives : Entry → Type 0 = λ e. TextGives form e.batch in (
-      entry_back form e (All-head EntryHasRanges e entries all) (All-head Gives e entries gives),
-      entries_are form entries state (All-tail Gives e entries gives) (All-tail EntryHasRanges e entries all),
+      entry_back known form e (All-head EntryHasRanges e entries all) (All-head Gives e entries gives),
+      entries_are known form entries state (All-tail Gives e entries gives) (All-tail EntryHasRanges e entries all),
     )
 
 -- a refusal can be written in this form
 abbrev pub TellsRefusal : ℕ → Refusal → Type 0
 TellsRefusal form f = TextGives form f.batch × TellsPlace form f.cause
 
-pub refusals_are : (form : ℕ) (refusals : List Refusal) (state : ℕ) → All (TellsRefusal form) refusals → All RefusalHasRanges refusals
+pub refusals_are : (known : Known) (form : ℕ) (refusals : List Refusal) (state : ℕ) → All (TellsRefusal form) refusals
+    → All RefusalHasRanges refusals
     → All CanBeRefused refusals → AreLines {S = ℕ} (λ s. said (refusal form)) (λ s x. s) state refusals (map (refusal_line form) refusals)
-refusals_are form [] state tells all can = tt
-refusals_are form (f ∷ refusals) state tells all can =
+refusals_are known form [] state tells all can = tt
+refusals_are known form (f ∷ refusals) state tells all can =
     let r = All-head RefusalHasRanges f refusals all in
     let told = All-head CanBeRefused f refusals can in
     let tell = All-head (TellsRefusal form) f refusals tells in (
-      refusal_back form f r told.1 tell.1 tell.0,
-      refusals_are form refusals state (All-tail (TellsRefusal form) f refusals tells) (All-tail RefusalHasRanges f refusals all)
+      refusal_back known form f r told.1 tell.1 tell.0,
+      refusals_are known form refusals state (All-tail (TellsRefusal form) f refusals tells) (All-tail RefusalHasRanges f refusals all)
           (All-tail CanBeRefused f refusals can),
     )
 
-pub ticks_are : (ticks : List TickReport) (n : ℕ) → All TickHasRanges ticks
+pub ticks_are : (known : Known) (ticks : List TickReport) (n : ℕ) → All TickHasRanges ticks
     → AreLines (λ n. said (tick n)) (λ n x. suc n) n ticks (tick_lines n ticks)
-ticks_are [] n all = tt
-ticks_are (t ∷ ticks) n all =
-    (tick_back n t (All-head TickHasRanges t ticks all), ticks_are ticks (suc n) (All-tail TickHasRanges t ticks all))
+ticks_are known [] n all = tt
+ticks_are known (t ∷ ticks) n all =
+    (tick_back known n t (All-head TickHasRanges t ticks all), ticks_are known ticks (suc n) (All-tail TickHasRanges t ticks all))
 
-pub hands_are : (hands : List HandEnd) (least : ℕ) → All HandHasRanges hands → All HasHandCause hands → Ascend least hands
+pub hands_are : (known : Known) (hands : List HandEnd) (least : ℕ) → All HandHasRanges hands → All HasHandCause hands → Ascend least hands
     → AreLines (λ least. said (hand least)) (λ least end. end.hand + 1) least hands (map hand_line hands)
-hands_are [] least all causes up = tt
-hands_are (h ∷ hands) least all causes up = (
-  hand_back least h (All-head HandHasRanges h hands all) (All-head HasHandCause h hands causes) up.0,
-  hands_are hands (h.hand + 1) (All-tail HandHasRanges h hands all) (All-tail HasHandCause h hands causes) up.1,
+hands_are known [] least all causes up = tt
+hands_are known (h ∷ hands) least all causes up = (
+  hand_back known least h (All-head HandHasRanges h hands all) (All-head HasHandCause h hands causes) up.0,
+  hands_are known hands (h.hand + 1) (All-tail HandHasRanges h hands all) (All-tail HasHandCause h hands causes) up.1,
 )
 
 -- ---- how a line begins
@@ -128,49 +132,49 @@ pub record Begins (w line : List ℕ) : Type 0 where
   pub rest : List (List ℕ)
   pub words : split 32 line ≡ w ∷ rest
 
-pub entry_begins : (e : Entry) → Begins (codes "c") (entry_line e)
-entry_begins e = record {
+pub entry_begins : (known : Known) (e : Entry) → Begins (codes "c") (entry_line e)
+entry_begins known e = record {
   rest = numbers (e.version ∷ e.hand ∷ e.seq ∷ []) ++ split 32 (batch_text e.batch);
   words = split_before (codes "c") (numbers (e.version ∷ e.hand ∷ e.seq ∷ [])) (batch_text e.batch) refl
-      (plain_numbers (e.version ∷ e.hand ∷ e.seq ∷ []));
+      (plain_numbers known (e.version ∷ e.hand ∷ e.seq ∷ []));
 }
 
-pub refusal_begins : (form : ℕ) (f : Refusal) → Begins (codes "r") (refusal_line form f)
-refusal_begins form f =
+pub refusal_begins : (known : Known) (form : ℕ) (f : Refusal) → Begins (codes "r") (refusal_line form f)
+refusal_begins known form f =
     let ns = numbers (f.hand ∷ f.seq ∷ []) in
     let cw = cause_words form f.cause in
     record {
       rest = (ns ++ cw) ++ split 32 (batch_text f.batch);
       words = split_before (codes "r") (ns ++ cw) (batch_text f.batch) refl
-          (words_append ns cw (plain_numbers (f.hand ∷ f.seq ∷ [])) (plain_cause form f.cause));
+          (words_append ns cw (plain_numbers known (f.hand ∷ f.seq ∷ [])) (plain_cause known form f.cause));
     }
 
-pub tick_begins : (n : ℕ) (t : TickReport) → Begins (codes "t") (tick_line n t)
-tick_begins n t =
+pub tick_begins : (known : Known) (n : ℕ) (t : TickReport) → Begins (codes "t") (tick_line n t)
+tick_begins known n t =
     let ns = n ∷ t.version ∷ t.order ∷ t.row ∷ t.tick ∷ t.frames ∷ [] in
-    record { rest = numbers ns; words = split_words (codes "t") (numbers ns) refl (plain_numbers ns) }
+    record { rest = numbers ns; words = split_words (codes "t") (numbers ns) refl (plain_numbers known ns) }
 
-pub hand_begins : (h : HandEnd) → HasHandCause h → Begins (codes "h") (hand_line h)
-hand_begins h c =
+pub hand_begins : (known : Known) (h : HandEnd) → HasHandCause h → Begins (codes "h") (hand_line h)
+hand_begins known h c =
     let ws = decimal h.hand ∷ hand_cause h.cause ∷ decimal h.at ∷ [] in
     record {
       rest = ws;
       words = split_words (codes "h") ws refl
-          (and_from (plain (decimal h.hand)) _ (plain_decimal h.hand)
+          (and_from (plain (decimal h.hand)) _ (known.plain_decimal h.hand)
           (and_from (plain (hand_cause h.cause)) _ (cause_name h.cause c.0 c.1).1
-          (and_from (plain (decimal h.at)) true (plain_decimal h.at) refl)));
+          (and_from (plain (decimal h.at)) true (known.plain_decimal h.at) refl)));
     }
 
-pub saved_begins : (s : SavedLine) → Begins (codes "s") (saved_line s)
-saved_begins s = record {
+pub saved_begins : (known : Known) (s : SavedLine) → Begins (codes "s") (saved_line s)
+saved_begins known s = record {
   rest = numbers (s.version ∷ s.bytes ∷ []);
-  words = split_words (codes "s") (numbers (s.version ∷ s.bytes ∷ [])) refl (plain_numbers (s.version ∷ s.bytes ∷ []));
+  words = split_words (codes "s") (numbers (s.version ∷ s.bytes ∷ [])) refl (plain_numbers known (s.version ∷ s.bytes ∷ []));
 }
 
-pub end_begins : (status ticks : ℕ) → Begins (codes "end") (end_line status ticks)
-end_begins status ticks = record {
+pub end_begins : (known : Known) (status ticks : ℕ) → Begins (codes "end") (end_line status ticks)
+end_begins known status ticks = record {
   rest = numbers (status ∷ ticks ∷ []);
-  words = split_words (codes "end") (numbers (status ∷ ticks ∷ [])) refl (plain_numbers (status ∷ ticks ∷ []));
+  words = split_words (codes "end") (numbers (status ∷ ticks ∷ [])) refl (plain_numbers known (status ∷ ticks ∷ []));
 }
 
 -- a line that begins otherwise has no value

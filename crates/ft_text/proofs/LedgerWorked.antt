@@ -1,14 +1,13 @@
 -- Ledgers, computed.
 use Rattle.std.proofs.Common.{◌≡◌, ℕ, List, [], ◌∷◌, codes, Some, Ok, Err, refl}
 use Rattle.std.specs.Fmt.{digits}
-use Rattle.hex.specs.Hex.{encode_with, decode_pairs}
 use Rattle.ft_types.specs.declared.edit.Edit.TheVariants as edits
 use Rattle.ft_types.specs.declared.edit_fault.EditFault.TheVariants as causes
 use Rattle.ft_types.specs.declared.commit_fault.CommitFault.TheVariants as faults
-use Rattle.ft_text.specs.Reading.{spaces, word_length, next_word}
-use Rattle.ft_text.specs.Edits.{edit_reading, readings, u32, kind_reading}
-use Rattle.ft_text.specs.Lines.{beginning, timed_reading, time_reading, edits_reading, others_reading, another_reading}
-use Rattle.ft_text.specs.Texts.{batch_text, edit_text}
+use Rattle.ft_lines.specs.Reading.{spaces, word_length, next_word}
+use Rattle.ft_lines.specs.Edits.{edit_reading, readings, u32, kind_reading}
+use Rattle.ft_lines.specs.Lines.{beginning, timed_reading, time_reading, edits_reading, others_reading, another_reading}
+use Rattle.ft_lines.specs.Texts.{batch_text, edit_text}
 use Rattle.ft_text.specs.Record.{LedgerAccount}
 use Rattle.ft_text.specs.Ledger.{joined_lines, ledger_lines, ledger_text}
 use Rattle.ft_text.specs.LedgerWords.{word, batch, batch_of, fault, cause}
@@ -62,97 +61,97 @@ last = codes "end 9 2"
 
 printed : ledger_text 2 account ≡ joined_lines (first ∷ play ∷ made ∷ no_row ∷ full ∷ tick_0 ∷ tick_1 ∷ hand_0 ∷ hand_2 ∷ song ∷ last ∷ [])
 unfolding ledger_of ledger over maybe_line many lines_from one_line word batch batch_of fault cause ledger_text ledger_lines
-    batch_text edit_text beginning timed_reading time_reading edits_reading others_reading another_reading edit_reading readings kind_reading
-    u32 next_word spaces word_length digits encode_with decode_pairs
+    batch_text edit_text beginning timed_reading time_reading edits_reading others_reading another_reading edit_reading readings
+    kind_reading u32 next_word spaces word_length digits
 printed = refl
 
 read : ledger_of (joined_lines (first ∷ play ∷ made ∷ no_row ∷ full ∷ tick_0 ∷ tick_1 ∷ hand_0 ∷ hand_2 ∷ song ∷ last ∷ []))
     ≡ Ok account
 unfolding ledger_of ledger over maybe_line many lines_from one_line word batch batch_of fault cause ledger_text ledger_lines
-    batch_text edit_text beginning timed_reading time_reading edits_reading others_reading another_reading edit_reading readings kind_reading
-    u32 next_word spaces word_length digits encode_with decode_pairs
+    batch_text edit_text beginning timed_reading time_reading edits_reading others_reading another_reading edit_reading readings
+    kind_reading u32 next_word spaces word_length digits
 read = refl
 
 no_play : ledger_of (joined_lines (first ∷ made ∷ no_row ∷ full ∷ tick_0 ∷ tick_1 ∷ hand_0 ∷ hand_2 ∷ song ∷ last ∷ []))
     ≡ Err 2
 unfolding ledger_of ledger over maybe_line many lines_from one_line word batch batch_of fault cause ledger_text ledger_lines
-    batch_text edit_text beginning timed_reading time_reading edits_reading others_reading another_reading edit_reading readings kind_reading
-    u32 next_word spaces word_length digits encode_with decode_pairs
+    batch_text edit_text beginning timed_reading time_reading edits_reading others_reading another_reading edit_reading readings
+    kind_reading u32 next_word spaces word_length digits
 no_play = refl
 
 two_spaces : ledger_of
     (joined_lines (first ∷ codes "play 44100  60 16384 8" ∷ made ∷ no_row ∷ full ∷ tick_0 ∷ tick_1 ∷ hand_0 ∷ hand_2 ∷ song ∷ last ∷ []))
     ≡ Err 2
 unfolding ledger_of ledger over maybe_line many lines_from one_line word batch batch_of fault cause ledger_text ledger_lines
-    batch_text edit_text beginning timed_reading time_reading edits_reading others_reading another_reading edit_reading readings kind_reading
-    u32 next_word spaces word_length digits encode_with decode_pairs
+    batch_text edit_text beginning timed_reading time_reading edits_reading others_reading another_reading edit_reading readings
+    kind_reading u32 next_word spaces word_length digits
 two_spaces = refl
 
 form_1_has_no_place : ledger_of
     (joined_lines (codes "xmstudio ledger 1" ∷ play ∷ made ∷ no_row ∷ full ∷ tick_0 ∷ tick_1 ∷ hand_0 ∷ hand_2 ∷ song ∷ last ∷ []))
     ≡ Err 3
 unfolding ledger_of ledger over maybe_line many lines_from one_line word batch batch_of fault cause ledger_text ledger_lines
-    batch_text edit_text beginning timed_reading time_reading edits_reading others_reading another_reading edit_reading readings kind_reading
-    u32 next_word spaces word_length digits encode_with decode_pairs
+    batch_text edit_text beginning timed_reading time_reading edits_reading others_reading another_reading edit_reading readings
+    kind_reading u32 next_word spaces word_length digits
 form_1_has_no_place = refl
 
 trailing_space : ledger_of
     (joined_lines (first ∷ play ∷ codes "c 1 0 1 tempo 3 " ∷ no_row ∷ full ∷ tick_0 ∷ tick_1 ∷ hand_0 ∷ hand_2 ∷ song ∷ last ∷ []))
     ≡ Err 3
 unfolding ledger_of ledger over maybe_line many lines_from one_line word batch batch_of fault cause ledger_text ledger_lines
-    batch_text edit_text beginning timed_reading time_reading edits_reading others_reading another_reading edit_reading readings kind_reading
-    u32 next_word spaces word_length digits encode_with decode_pairs
+    batch_text edit_text beginning timed_reading time_reading edits_reading others_reading another_reading edit_reading readings
+    kind_reading u32 next_word spaces word_length digits
 trailing_space = refl
 
 a_time : ledger_of
     (joined_lines (first ∷ play ∷ codes "c 1 0 1 at 1 tempo 3" ∷ no_row ∷ full ∷ tick_0 ∷ tick_1 ∷ hand_0 ∷ hand_2 ∷ song ∷ last ∷ []))
     ≡ Err 3
 unfolding ledger_of ledger over maybe_line many lines_from one_line word batch batch_of fault cause ledger_text ledger_lines
-    batch_text edit_text beginning timed_reading time_reading edits_reading others_reading another_reading edit_reading readings kind_reading
-    u32 next_word spaces word_length digits encode_with decode_pairs
+    batch_text edit_text beginning timed_reading time_reading edits_reading others_reading another_reading edit_reading readings
+    kind_reading u32 next_word spaces word_length digits
 a_time = refl
 
 tick_missing : ledger_of (joined_lines (first ∷ play ∷ made ∷ no_row ∷ full ∷ tick_1 ∷ hand_0 ∷ hand_2 ∷ song ∷ last ∷ []))
     ≡ Err 6
 unfolding ledger_of ledger over maybe_line many lines_from one_line word batch batch_of fault cause ledger_text ledger_lines
-    batch_text edit_text beginning timed_reading time_reading edits_reading others_reading another_reading edit_reading readings kind_reading
-    u32 next_word spaces word_length digits encode_with decode_pairs
+    batch_text edit_text beginning timed_reading time_reading edits_reading others_reading another_reading edit_reading readings
+    kind_reading u32 next_word spaces word_length digits
 tick_missing = refl
 
 hands_descend : ledger_of
     (joined_lines (first ∷ play ∷ made ∷ no_row ∷ full ∷ tick_0 ∷ tick_1 ∷ codes "h 2 failed 3" ∷ hand_2 ∷ song ∷ last ∷ []))
     ≡ Err 9
 unfolding ledger_of ledger over maybe_line many lines_from one_line word batch batch_of fault cause ledger_text ledger_lines
-    batch_text edit_text beginning timed_reading time_reading edits_reading others_reading another_reading edit_reading readings kind_reading
-    u32 next_word spaces word_length digits encode_with decode_pairs
+    batch_text edit_text beginning timed_reading time_reading edits_reading others_reading another_reading edit_reading readings
+    kind_reading u32 next_word spaces word_length digits
 hands_descend = refl
 
 ticks_counted : ledger_of (joined_lines
     (first ∷ play ∷ made ∷ no_row ∷ full ∷ tick_0 ∷ tick_1 ∷ hand_0 ∷ hand_2 ∷ song ∷ codes "end 9 3" ∷ []))
     ≡ Err 11
 unfolding ledger_of ledger over maybe_line many lines_from one_line word batch batch_of fault cause ledger_text ledger_lines
-    batch_text edit_text beginning timed_reading time_reading edits_reading others_reading another_reading edit_reading readings kind_reading
-    u32 next_word spaces word_length digits encode_with decode_pairs
+    batch_text edit_text beginning timed_reading time_reading edits_reading others_reading another_reading edit_reading readings
+    kind_reading u32 next_word spaces word_length digits
 ticks_counted = refl
 
 no_such_status : ledger_of (joined_lines
     (first ∷ play ∷ made ∷ no_row ∷ full ∷ tick_0 ∷ tick_1 ∷ hand_0 ∷ hand_2 ∷ song ∷ codes "end 6 2" ∷ []))
     ≡ Err 11
 unfolding ledger_of ledger over maybe_line many lines_from one_line word batch batch_of fault cause ledger_text ledger_lines
-    batch_text edit_text beginning timed_reading time_reading edits_reading others_reading another_reading edit_reading readings kind_reading
-    u32 next_word spaces word_length digits encode_with decode_pairs
+    batch_text edit_text beginning timed_reading time_reading edits_reading others_reading another_reading edit_reading readings
+    kind_reading u32 next_word spaces word_length digits
 no_such_status = refl
 
 no_end : ledger_of (joined_lines (first ∷ play ∷ made ∷ no_row ∷ full ∷ tick_0 ∷ tick_1 ∷ hand_0 ∷ hand_2 ∷ song ∷ []))
     ≡ Err 11
 unfolding ledger_of ledger over maybe_line many lines_from one_line word batch batch_of fault cause ledger_text ledger_lines
-    batch_text edit_text beginning timed_reading time_reading edits_reading others_reading another_reading edit_reading readings kind_reading
-    u32 next_word spaces word_length digits encode_with decode_pairs
+    batch_text edit_text beginning timed_reading time_reading edits_reading others_reading another_reading edit_reading readings
+    kind_reading u32 next_word spaces word_length digits
 no_end = refl
 
 another_line : ledger_of (joined_lines (first ∷ play ∷ made ∷ no_row ∷ full ∷ tick_0 ∷ tick_1 ∷ hand_0 ∷ hand_2 ∷ song ∷ last ∷ last ∷ []))
     ≡ Err 12
 unfolding ledger_of ledger over maybe_line many lines_from one_line word batch batch_of fault cause ledger_text ledger_lines
-    batch_text edit_text beginning timed_reading time_reading edits_reading others_reading another_reading edit_reading readings kind_reading
-    u32 next_word spaces word_length digits encode_with decode_pairs
+    batch_text edit_text beginning timed_reading time_reading edits_reading others_reading another_reading edit_reading readings
+    kind_reading u32 next_word spaces word_length digits
 another_line = refl

@@ -10,14 +10,15 @@ use Rattle.ft_types.specs.declared.tick_report.TickReport.{TickReport}
 use Rattle.ft_text.specs.declared.record.Run.{Run}
 use Rattle.ft_text.specs.declared.record.HandEnd.{HandEnd}
 use Rattle.ft_text.specs.declared.record.SavedLine.{SavedLine}
-use Rattle.ft_text.specs.Values.{number_of}
-use Rattle.ft_text.specs.Words.{numbers}
-use Rattle.ft_text.specs.Texts.{spaced}
-use Rattle.ft_text.specs.Lines.{this_word}
+use Rattle.ft_lines.specs.Values.{number_of}
+use Rattle.ft_lines.specs.Words.{numbers}
+use Rattle.ft_lines.specs.Texts.{spaced}
+use Rattle.ft_lines.specs.Lines.{this_word}
 use Rattle.ft_text.specs.Ledger.{head_line, play_line, entry_line, refusal_line, tick_line, hand_line, hand_cause, saved_line, end_line, cause_words}
 use Rattle.ft_text.specs.LedgerWords.{if_over, said, batch, head, play, entry, cause, refusal, tick, hand, saved, end}
 use Rattle.ft_text.proofs.SplitsBack.{split}
 use Rattle.ft_text.proofs.WordsExact.{number_is, this_is, took, given, link, head_exact, play_exact, tick_exact, hand_exact, saved_exact, end_exact, cause_exact, batch_exact, followed}
+use Rattle.ft_text.specs.Known.{Known}
 
 -- ---- a line and its words
 
@@ -47,9 +48,10 @@ taken_all (Some taken) x h = elim (cases_Bool (length taken.1 == 0)) [
 
 -- ---- each line
 
-pub head_line_is : (line : List ℕ) (form : ℕ) → said head line ≡ Some form → (line ≡ head_line form) × (1 ≤ form) × (form ≤ 2)
-head_line_is line form h =
-    let e = head_exact (split 32 line) [] form (taken_all (head (split 32 line)) form h) in
+pub head_line_is : (known : Known) (line : List ℕ) (form : ℕ) → said head line ≡ Some form
+    → (line ≡ head_line form) × (1 ≤ form) × (form ≤ 2)
+head_line_is known line form h =
+    let e = head_exact known (split 32 line) [] form (taken_all (head (split 32 line)) form h) in
     (line_is line (codes "xmstudio") (codes "ledger" ∷ decimal form ∷ []) e.0, e.1, e.2)
 
 pub play_line_is : (line : List ℕ) (run : Run) → said play line ≡ Some run → line ≡ play_line run

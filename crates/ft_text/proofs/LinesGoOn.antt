@@ -17,7 +17,8 @@ use Rattle.ft_text.specs.declared.record.SavedLine.{SavedLine}
 use Rattle.ft_text.specs.Record.{LedgerAccount, IsTellable, CanBeEntered, CanBeRefused, HasHandCause, Ascend}
 use Rattle.ft_text.specs.Ledger.{head_line, play_line, entry_line, refusal_line, tick_line, tick_lines, hand_line, saved_line, saved_lines, end_line, ledger_lines, ended, joined_lines, ledger_text}
 use Rattle.ft_text.specs.LedgerWords.{said, head, play, entry, refusal, tick, hand, saved, end}
-use Rattle.ft_text.specs.LedgerReading.{LedgerPlace, line_number, one_line, line_at, line_or_wrong, lines_from, while_some, many, maybe_line, none_or, is_end, over, follow, ledger, ledger_start, ledger_of}
+use Rattle.ft_lines.specs.Sequence.{follow}
+use Rattle.ft_text.specs.LedgerReading.{LedgerPlace, line_number, one_line, line_at, line_or_wrong, lines_from, while_some, many, maybe_line, none_or, is_end, over, ledger, ledger_start, ledger_of}
 use Rattle.ft_text.specs.LedgerBack.{RunHasRanges, EntryHasRanges, RefusalHasRanges, TickHasRanges, HandHasRanges, SavedHasRanges, AccountHasRanges, IsFirst, IsOld}
 use Rattle.ft_text.specs.LedgerExact.{IsLedgerOf, AreLines, GoesOn}
 use Rattle.ft_text.proofs.Cuts.{some_part}
@@ -28,6 +29,7 @@ use Rattle.ft_text.proofs.LinesExact.{head_line_is, play_line_is, entry_line_is,
 use Rattle.ft_text.proofs.WholeExact.{pair_ok, one_exact, written, lines_exact, written_map, written_hands, written_ticks, valued, made_of, from_end, from_saved, from_hands, from_ticks, from_refusals, from_entries, from_play, whole_exact}
 use Rattle.ft_text.proofs.Settled.{fault_is}
 use Rattle.ft_text.proofs.LedgerLinesInRange.{play_in_range, IsEntry, entry_in_range, IsRefusal, refusal_in_range, tick_in_range, hand_in_range, IsSaved, saved_in_range, IsStatus, end_in_range}
+use Rattle.ft_text.specs.Known.{Known}
 
 -- ---- accounts of a form
 
@@ -42,7 +44,8 @@ abbrev IsEnd : HandEnd → Type 0
 IsEnd end = HandHasRanges end × HasHandCause end
 
 -- the parts of an account that were read in a form
-record Suits (form : ℕ) (run : Run) (es : List Entry) (rs : List Refusal) (ts : List TickReport) (hs : List HandEnd)
+record Suits (form : ℕ) (run : Run) (es : List Entry)
+    (rs : List Refusal) (ts : List TickReport) (hs : List HandEnd)
     (s : Option SavedLine) : Type 0 where
   pub least : 1 ≤ form
   pub most : form ≤ 2
@@ -242,17 +245,17 @@ lines_all {S} {A} P value moved each state (line ∷ rest) =
 abbrev hands_in : ℕ → List (List ℕ) → List HandEnd × List (List ℕ)
 hands_in least parts = lines_from (λ least. said (hand least)) (λ least end. end.hand + 1) least parts
 
-hands_ascend : (least : ℕ) (parts : List (List ℕ)) → Ascend least (hands_in least parts).0
+hands_ascend : (known : Known) (least : ℕ) (parts : List (List ℕ)) → Ascend least (hands_in least parts).0
 unfolding lines_from
-hands_ascend least [] = tt
-hands_ascend least (line ∷ rest) =
+hands_ascend known least [] = tt
+hands_ascend known least (line ∷ rest) =
     let here = line ∷ rest in
     let none : List HandEnd × List (List ℕ) = ([], here) in
     let more : HandEnd → List HandEnd × List (List ℕ) = λ x. hands_in (x.hand + 1) rest in
     let go : (o : Option HandEnd) → said (hand least) line ≡ o → Ascend least (while_some here o more).0 =
     λ o. elim o as (λ o. said (hand least) line ≡ o → Ascend least (while_some here o more).0) [
       | None ↦ λ e. tt
-      | Some x ↦ λ e. ((hand_in_range least line x e).above, hands_ascend (x.hand + 1) rest)
+      | Some x ↦ λ e. ((hand_in_range known least line x e).above, hands_ascend known (x.hand + 1) rest)
     ] in
     elim (cases_Bool (length rest == 0)) [
       | inl so ↦ subst (λ r.
@@ -307,7 +310,8 @@ to_hands form run es rs ts hs = to_ticks form run es rs ts ++ map hand_line hs
 abbrev to_saved : ℕ → Run → List Entry → List Refusal → List TickReport → List HandEnd → Option SavedLine → List (List ℕ)
 to_saved form run es rs ts hs s = to_hands form run es rs ts hs ++ saved_lines s
 
-lines_of_made : (form : ℕ) (run : Run) (es : List Entry) (rs : List Refusal) (ts : List TickReport) (hs : List HandEnd)
+lines_of_made : (form : ℕ) (run : Run) (es : List Entry)
+    (rs : List Refusal) (ts : List TickReport) (hs : List HandEnd)
     (s : Option SavedLine) (status : ℕ)
     → ledger_lines form (made_of run es rs ts hs s status) ≡ to_saved form run es rs ts hs s ++ end_line status (length ts) ∷ []
 unfolding ledger_lines
@@ -328,7 +332,8 @@ over_out parts before form a p here lines fit =
           (stopped_at parts before [] p (line_number p.at) form a here refl (lines ∙ sym (append-nil before)) fit)
     ]
 
-end_out : (parts : List (List ℕ)) (form : ℕ) (run : Run) (es : List Entry) (rs : List Refusal) (ts : List TickReport) (hs : List HandEnd)
+end_out : (parts : List (List ℕ)) (form : ℕ) (run : Run) (es : List Entry)
+    (rs : List Refusal) (ts : List TickReport) (hs : List HandEnd)
     (s : Option SavedLine) (p : LedgerPlace) → Suits form run es rs ts hs s → At parts p (to_saved form run es rs ts hs s)
     → OutcomeIn form parts (from_end form run es rs ts hs s p)
 end_out parts form run es rs ts hs s p suits here = go (one_line (said (end form (length ts))) p) refl where
@@ -349,11 +354,12 @@ end_out parts form run es rs ts hs s p suits here = go (one_line (said (end form
       (made_of run es rs ts hs s read.0) read.1 next
       (lines_of_made form run es rs ts hs s read.0) (fits form run es rs ts hs s read.0 suits status)
 
-saved_out : (parts : List (List ℕ)) (form : ℕ) (run : Run) (es : List Entry) (rs : List Refusal) (ts : List TickReport) (hs : List HandEnd)
+saved_out : (known : Known) (parts : List (List ℕ)) (form : ℕ) (run : Run) (es : List Entry)
+    (rs : List Refusal) (ts : List TickReport) (hs : List HandEnd)
     (p : LedgerPlace) → Suits form run es rs ts hs None → At parts p (to_hands form run es rs ts hs)
     → OutcomeIn form parts (from_saved form run es rs ts hs p)
 unfolding maybe_line
-saved_out parts form run es rs ts hs p suits here = go (one_line (said (saved form)) p) refl where
+saved_out known parts form run es rs ts hs p suits here = go (one_line (said (saved form)) p) refl where
   go : (r : Result (SavedLine × LedgerPlace) ℕ) → one_line (said (saved form)) p ≡ r
       → OutcomeIn form parts (follow (from_end form run es rs ts hs) (none_or p r))
   go (Err n) e = end_out parts form run es rs ts hs None p suits
@@ -372,18 +378,19 @@ saved_out parts form run es rs ts hs p suits here = go (one_line (said (saved fo
         ticks = suits.ticks;
         hands = suits.hands;
         ascend = suits.ascend;
-        saved_is = saved_in_range form one.line read.0 one.says;
+        saved_is = saved_in_range known form one.line read.0 one.says;
       })
       (at_next parts (to_hands form run es rs ts hs) (saved_line read.0) p read.1 here cut
       (one_moves (said (saved form)) p read.1 read.0 e))
 
-hands_out : (parts : List (List ℕ)) (form : ℕ) (run : Run) (es : List Entry) (rs : List Refusal) (ts : List TickReport) (p : LedgerPlace)
+hands_out : (known : Known) (parts : List (List ℕ)) (form : ℕ) (run : Run) (es : List Entry) (rs : List Refusal)
+    (ts : List TickReport) (p : LedgerPlace)
     → Suits form run es rs ts [] None → At parts p (to_ticks form run es rs ts) → OutcomeIn form parts (from_hands form run es rs ts p)
 unfolding many
-hands_out parts form run es rs ts p suits here =
+hands_out known parts form run es rs ts p suits here =
     let read = hands_in 0 p.left in
     let q : LedgerPlace = record { at = p.at + length read.0; left = read.1 } in
-    saved_out parts form run es rs ts read.0 q
+    saved_out known parts form run es rs ts read.0 q
     (record {
       least = suits.least;
       most = suits.most;
@@ -392,27 +399,27 @@ hands_out parts form run es rs ts p suits here =
       refusals = suits.refusals;
       ticks = suits.ticks;
       hands = lines_all IsEnd (λ least. said (hand least)) (λ least end. end.hand + 1)
-          (λ least line e h. let is = hand_in_range least line e h in (is.ranges, is.cause)) 0 p.left;
-      ascend = hands_ascend 0 p.left;
+          (λ least line e h. let is = hand_in_range known least line e h in (is.ranges, is.cause)) 0 p.left;
+      ascend = hands_ascend known 0 p.left;
       saved_is = tt;
     })
     (at_behind (λ least. said (hand least)) (λ least end. end.hand + 1) (λ s. hand_line) hand_line_is parts (to_ticks form run es rs ts)
     (map hand_line read.0) 0 p here (written_hands 0 read.0))
 
-ticks_out : (parts : List (List ℕ)) (form : ℕ) (run : Run) (es : List Entry) (rs : List Refusal) (p : LedgerPlace)
+ticks_out : (known : Known) (parts : List (List ℕ)) (form : ℕ) (run : Run) (es : List Entry) (rs : List Refusal) (p : LedgerPlace)
     → Suits form run es rs [] [] None → At parts p (to_refusals form run es rs) → OutcomeIn form parts (from_ticks form run es rs p)
 unfolding many
-ticks_out parts form run es rs p suits here =
+ticks_out known parts form run es rs p suits here =
     let read = lines_from (λ n. said (tick n)) (λ n x. suc n) 0 p.left in
     let q : LedgerPlace = record { at = p.at + length read.0; left = read.1 } in
-    hands_out parts form run es rs read.0 q
+    hands_out known parts form run es rs read.0 q
     (record {
       least = suits.least;
       most = suits.most;
       run_is = suits.run_is;
       entries = suits.entries;
       refusals = suits.refusals;
-      ticks = lines_all TickHasRanges (λ n. said (tick n)) (λ n x. suc n) tick_in_range 0 p.left;
+      ticks = lines_all TickHasRanges (λ n. said (tick n)) (λ n x. suc n) (tick_in_range known) 0 p.left;
       hands = All-nil IsEnd;
       ascend = tt;
       saved_is = tt;
@@ -420,19 +427,19 @@ ticks_out parts form run es rs p suits here =
     (at_behind (λ n. said (tick n)) (λ n x. suc n) tick_line tick_line_is parts (to_refusals form run es rs)
     (tick_lines 0 read.0) 0 p here (written_ticks 0 read.0))
 
-refusals_out : (parts : List (List ℕ)) (form : ℕ) (run : Run) (es : List Entry) (p : LedgerPlace)
+refusals_out : (known : Known) (parts : List (List ℕ)) (form : ℕ) (run : Run) (es : List Entry) (p : LedgerPlace)
     → Suits form run es [] [] [] None → At parts p (to_entries form run es) → OutcomeIn form parts (from_refusals form run es p)
 unfolding many
-refusals_out parts form run es p suits here =
+refusals_out known parts form run es p suits here =
     let read = lines_from {S = ℕ} (λ s. said (refusal form)) (λ s x. s) 0 p.left in
     let q : LedgerPlace = record { at = p.at + length read.0; left = read.1 } in
-    ticks_out parts form run es read.0 q
+    ticks_out known parts form run es read.0 q
     (record {
       least = suits.least;
       most = suits.most;
       run_is = suits.run_is;
       entries = suits.entries;
-      refusals = lines_all {S = ℕ} (IsRefusal form) (λ s. said (refusal form)) (λ s x. s) (λ s. refusal_in_range form) 0 p.left;
+      refusals = lines_all {S = ℕ} (IsRefusal form) (λ s. said (refusal form)) (λ s x. s) (λ s. refusal_in_range known form) 0 p.left;
       ticks = All-nil TickHasRanges;
       hands = All-nil IsEnd;
       ascend = tt;
@@ -441,18 +448,18 @@ refusals_out parts form run es p suits here =
     (at_behind {S = ℕ} (λ s. said (refusal form)) (λ s x. s) (λ s. refusal_line form) (λ s. refusal_line_is form) parts
     (to_entries form run es) (map (refusal_line form) read.0) 0 p here (written_map (refusal_line form) 0 read.0))
 
-entries_out : (parts : List (List ℕ)) (form : ℕ) (run : Run) (p : LedgerPlace)
+entries_out : (known : Known) (parts : List (List ℕ)) (form : ℕ) (run : Run) (p : LedgerPlace)
     → Suits form run [] [] [] [] None → At parts p (to_play form run) → OutcomeIn form parts (from_entries form run p)
 unfolding many
-entries_out parts form run p suits here =
+entries_out known parts form run p suits here =
     let read = lines_from {S = ℕ} (λ s. said (entry form)) (λ s x. s) 0 p.left in
     let q : LedgerPlace = record { at = p.at + length read.0; left = read.1 } in
-    refusals_out parts form run read.0 q
+    refusals_out known parts form run read.0 q
     (record {
       least = suits.least;
       most = suits.most;
       run_is = suits.run_is;
-      entries = lines_all {S = ℕ} (IsEntry form) (λ s. said (entry form)) (λ s x. s) (λ s. entry_in_range form) 0 p.left;
+      entries = lines_all {S = ℕ} (IsEntry form) (λ s. said (entry form)) (λ s x. s) (λ s. entry_in_range known form) 0 p.left;
       refusals = All-nil (IsRefusal form);
       ticks = All-nil TickHasRanges;
       hands = All-nil IsEnd;
@@ -488,9 +495,9 @@ shortest = made_of nothing_asked [] [] [] [] None 0
 shortest_fits : (form : ℕ) → 1 ≤ form → form ≤ 2 → Fits form shortest
 shortest_fits form least most = fits form nothing_asked [] [] [] [] None 0 (nothing_suits form least most) (ended_well form)
 
-play_out : (parts : List (List ℕ)) (form : ℕ) (p : LedgerPlace) → 1 ≤ form → form ≤ 2 → At parts p (first_line form)
+play_out : (known : Known) (parts : List (List ℕ)) (form : ℕ) (p : LedgerPlace) → 1 ≤ form → form ≤ 2 → At parts p (first_line form)
     → OutcomeIn form parts (from_play form p)
-play_out parts form p least most here = go (one_line (said play) p) refl where
+play_out known parts form p least most here = go (one_line (said play) p) refl where
   go : (r : Result (Run × LedgerPlace) ℕ) → one_line (said play) p ≡ r → OutcomeIn form parts (follow (from_entries form) r)
   go (Err n) e = stopped_at parts (first_line form) (play_line nothing_asked ∷ end_line 0 0 ∷ []) p n form shortest here
       (one_stops (said play) p n e) (lines_of_made form nothing_asked [] [] [] [] None 0) (shortest_fits form least most)
@@ -498,42 +505,43 @@ play_out parts form p least most here = go (one_line (said play) p) refl where
       let one = one_exact (said play) p read.1 read.0 e in
       let cut : p.left ≡ play_line read.0 ∷ (read.1).left =
       one.parts ∙ ap (λ l. l ∷ (read.1).left) (play_line_is one.line read.0 one.says) in
-      entries_out parts form read.0 read.1 (no_parts form read.0 least most (play_in_range one.line read.0 one.says))
+      entries_out known parts form read.0 read.1 (no_parts form read.0 least most (play_in_range known one.line read.0 one.says))
       (at_next parts (first_line form) (play_line read.0) p read.1 here cut (one_moves (said play) p read.1 read.0 e))
 
-ledger_out : (parts : List (List ℕ)) (p : LedgerPlace) → At parts p [] → Outcome p parts (ledger p)
+ledger_out : (known : Known) (parts : List (List ℕ)) (p : LedgerPlace) → At parts p [] → Outcome p parts (ledger p)
 unfolding ledger
-ledger_out parts p here = go (one_line (said head) p) refl where
+ledger_out known parts p here = go (one_line (said head) p) refl where
   go : (r : Result (ℕ × LedgerPlace) ℕ) → one_line (said head) p ≡ r → Outcome p parts (follow from_play r)
   go (Err n) e = stopped_at parts [] (head_line 2 ∷ play_line nothing_asked ∷ end_line 0 0 ∷ []) p n 2 shortest here
       (one_stops (said head) p n e) (lines_of_made 2 nothing_asked [] [] [] [] None 0) (shortest_fits 2 (omega arith) (omega arith))
   go (Ok read) e =
       let one = one_exact (said head) p read.1 read.0 e in
-      let is = head_line_is one.line read.0 one.says in
+      let is = head_line_is known one.line read.0 one.says in
       let cut : p.left ≡ head_line read.0 ∷ (read.1).left = one.parts ∙ ap (λ l. l ∷ (read.1).left) is.0 in
-      in_some_form p read.1 read.0 parts (from_play read.0 read.1) e (play_out parts read.0 read.1 is.1 is.2
+      in_some_form p read.1 read.0 parts (from_play read.0 read.1) e (play_out known parts read.0 read.1 is.1 is.2
       (at_next parts [] (head_line read.0) p read.1 here cut (one_moves (said head) p read.1 read.0 e)))
 
-bytes_out : (bytes : List ℕ) → Outcome (ledger_start bytes) (split 10 bytes) (ledger (ledger_start bytes))
-bytes_out bytes = ledger_out (split 10 bytes) (ledger_start bytes) (record { cut = refl; some = some_part 10 bytes; count = refl })
+bytes_out : (known : Known) (bytes : List ℕ) → Outcome (ledger_start bytes) (split 10 bytes) (ledger (ledger_start bytes))
+bytes_out known bytes = ledger_out known (split 10 bytes) (ledger_start bytes)
+    (record { cut = refl; some = some_part 10 bytes; count = refl })
 
-pub told_in_range : (bytes : List ℕ) (a : LedgerAccount) → ledger_of bytes ≡ Ok a → IsTellable a × AccountHasRanges a
+pub told_in_range : (known : Known) (bytes : List ℕ) (a : LedgerAccount) → ledger_of bytes ≡ Ok a → IsTellable a × AccountHasRanges a
 unfolding ledger_of
-told_in_range bytes a h =
+told_in_range known bytes a h =
     let read = valued (ledger (ledger_start bytes)) a h in
     let out : Outcome (ledger_start bytes) (split 10 bytes) (Ok (a, read.0)) =
-    subst (Outcome (ledger_start bytes) (split 10 bytes)) read.1 (bytes_out bytes) in
+    subst (Outcome (ledger_start bytes) (split 10 bytes)) read.1 (bytes_out known bytes) in
     ((out.3).told, (out.3).ranges)
 
 -- and form 1 writes only what it can
-pub told_in_form : (bytes : List ℕ) (a : LedgerAccount) (form : ℕ) (p : LedgerPlace)
+pub told_in_form : (known : Known) (bytes : List ℕ) (a : LedgerAccount) (form : ℕ) (p : LedgerPlace)
     → one_line (said head) (ledger_start bytes) ≡ Ok (form, p)
     → ledger_of bytes ≡ Ok a → form ≡ 1 → IsOld a
 unfolding ledger_of
-told_in_form bytes a form p head_is h first =
+told_in_form known bytes a form p head_is h first =
     let read = valued (ledger (ledger_start bytes)) a h in
     let out : Outcome (ledger_start bytes) (split 10 bytes) (Ok (a, read.0)) =
-    subst (Outcome (ledger_start bytes) (split 10 bytes)) read.1 (bytes_out bytes) in
+    subst (Outcome (ledger_start bytes) (split 10 bytes)) read.1 (bytes_out known bytes) in
     let same : out.0 ≡ form = (pair_ok out.0 form out.1 p (sym out.2 ∙ head_is)).0 in
     (out.3).old (same ∙ first)
 
@@ -543,13 +551,13 @@ two_of form least most other =
     omega (arith, least, most, not_one)
 
 -- what is read is the ledger of what was read
-pub read_is_written : (bytes : List ℕ) (a : LedgerAccount) → ledger_of bytes ≡ Ok a → IsLedgerOf bytes a
-read_is_written bytes a h =
-    let w = whole_exact bytes a h in
+pub read_is_written : (known : Known) (bytes : List ℕ) (a : LedgerAccount) → ledger_of bytes ≡ Ok a → IsLedgerOf bytes a
+read_is_written known bytes a h =
+    let w = whole_exact known bytes a h in
     elim (cases_Bool (w.form == 1)) [
       | inl so ↦
           let one : w.form ≡ 1 = eqb-true w.form 1 so in
-          inr (told_in_form bytes a w.form w.place w.head_is h one, w.text ∙ ap (λ form. ledger_text form a) one)
+          inr (told_in_form known bytes a w.form w.place w.head_is h one, w.text ∙ ap (λ form. ledger_text form a) one)
       | inr other ↦
           let two : w.form ≡ 2 = two_of w.form w.least w.most other in
           inl (w.text ∙ ap (λ form. ledger_text form a) two)
@@ -592,21 +600,23 @@ join_front (line ∷ lines) left some =
       join_one line [] some = absurd (cc)
       join_one line (part ∷ parts) some = refl
 
-read_whole : (form : ℕ) (a : LedgerAccount) → Fits form a → ledger_of (ledger_text form a) ≡ Ok a
-read_whole form a fit = elim (one_or_two form fit.least fit.most) [
+read_whole : (known : Known) (form : ℕ) (a : LedgerAccount) → Fits form a → ledger_of (ledger_text form a) ≡ Ok a
+read_whole known form a fit = elim (one_or_two form fit.least fit.most) [
   | inl e ↦ subst (λ f.
-      ledger_of (ledger_text f a) ≡ Ok a) (sym e) (whole_back 1 a (in_form_1 a (fit.old e) fit.told fit.ranges) fit.told fit.ranges)
-  | inr e ↦ subst (λ f. ledger_of (ledger_text f a) ≡ Ok a) (sym e) (whole_back 2 a (in_form_2 a fit.told fit.ranges) fit.told fit.ranges)
+      ledger_of (ledger_text f a) ≡ Ok a) (sym e)
+      (whole_back known 1 a (in_form_1 known a (fit.old e) fit.told fit.ranges) fit.told fit.ranges)
+  | inr e ↦ subst (λ f. ledger_of (ledger_text f a) ≡ Ok a) (sym e)
+      (whole_back known 2 a (in_form_2 known a fit.told fit.ranges) fit.told fit.ranges)
 ] where
   one_or_two : (form : ℕ) → 1 ≤ form → form ≤ 2 → (form ≡ 1) ⊎ (form ≡ 2)
   one_or_two form least most = grind (arith, least, most)
 
-pub lines_go_on : (bytes : List ℕ) (line : ℕ) → ledger_of bytes ≡ Err line → line < 4294967295 → GoesOn bytes line
+pub lines_go_on : (known : Known) (bytes : List ℕ) (line : ℕ) → ledger_of bytes ≡ Err line → line < 4294967295 → GoesOn bytes line
 unfolding ledger_of ledger_text
-lines_go_on bytes line h small =
+lines_go_on known bytes line h small =
     let parts = split 10 bytes in
     let stop : Stopped parts line = subst (Outcome (ledger_start bytes) parts) (fault_is (ledger (ledger_start bytes)) line h)
-    (bytes_out bytes) in
+    (bytes_out known bytes) in
     record {
       lines = stop.before;
       rest = join_with_byte 10 stop.left;
@@ -616,5 +626,5 @@ lines_go_on bytes line h small =
       are = clean_front stop.before stop.left (subst (All IsClean) stop.cut (clean_parts bytes));
       front = sym (join_with_byte-slice_split 10 bytes) ∙ ap (join_with_byte 10) stop.cut ∙ join_front stop.before stop.left stop.some;
       whole = ap ledger_of (sym (flat_map-append ended stop.before stop.other) ∙ ap joined_lines (sym stop.lines))
-          ∙ read_whole stop.form stop.account stop.fit;
+          ∙ read_whole known stop.form stop.account stop.fit;
     }

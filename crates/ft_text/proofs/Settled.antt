@@ -9,7 +9,8 @@ use Rattle.ft_text.specs.LedgerWords.{said, head, play, entry, refusal, tick, ha
 use Rattle.ft_text.specs.LedgerExact.{AreLines, WrongLineSettles}
 use Rattle.ft_text.proofs.Cuts.{some_part}
 use Rattle.ft_text.proofs.SplitsBack.{split, split_at, avoids}
-use Rattle.ft_text.specs.LedgerReading.{lines_of, ledger, ledger_of, ledger_value, LedgerPlace, LinesReading, line_number, one_line, line_at, line_or_wrong, lines_from, while_some, also, many, maybe_line, none_or, is_end, over, follow, ◌>>=◌}
+use Rattle.ft_lines.specs.Sequence.{read_value, follow, ◌>>=◌}
+use Rattle.ft_text.specs.LedgerReading.{lines_of, ledger, ledger_of, LedgerPlace, LinesReading, line_number, one_line, line_at, line_or_wrong, lines_from, while_some, also, many, maybe_line, none_or, is_end, over}
 use Rattle.ft_text.proofs.LedgerPartsBack.{at_place, some_behind}
 
 -- a fault is answered behind the place, and a reading goes on from there
@@ -269,7 +270,7 @@ settled_fault : {A : Type 0} (k : ℕ) (suf other : List (List ℕ)) (r s : Resu
 settled_fault k suf other (Ok read) s h e = absurd (cc)
 settled_fault k suf other (Err m) s h e = let same : m ≡ k = cc in h same
 
-pub fault_is : (r : Result (LedgerAccount × LedgerPlace) ℕ) (k : ℕ) → ledger_value r ≡ Err k → r ≡ Err k
+pub fault_is : (r : Result (LedgerAccount × LedgerPlace) ℕ) (k : ℕ) → read_value r ≡ Err k → r ≡ Err k
 fault_is (Ok read) k h = absurd (cc)
 fault_is (Err m) k h = let same : m ≡ k = cc in ap Err same
 
@@ -301,4 +302,4 @@ wrong_line_settles lines rest other are small wrong =
     let there : ledger (at_place 0 (lines ++ suf2)) ≡ Err k =
     settled_fault k suf suf2 (ledger (at_place 0 (lines ++ suf))) (ledger (at_place 0 (lines ++ suf2)))
     (ledger_settles.same k small suf suf2 (some_part 10 rest) (some_part 10 other) 0 lines counted) here in
-    ap (λ left. ledger_value (ledger (at_place 0 left))) (split_front lines other are) ∙ ap ledger_value there
+    ap (λ left. read_value (ledger (at_place 0 left))) (split_front lines other are) ∙ ap read_value there

@@ -3,9 +3,9 @@ use Rattle.std.proofs.Common.{◌≡◌, ℕ, ◌==◌, Bool, true, cond, not, �
 use Rattle.std.specs.List.{list_all, slice_split, onto_first}
 use Rattle.std.proofs.lemmas.List.{append-nil}
 use Rattle.std.proofs.lemmas.Bool.{and_from, and_parts, not-true, eq-eqb}
-use Rattle.ft_text.specs.Texts.{spaced, text_of_words}
+use Rattle.ft_lines.specs.Texts.{spaced, text_of_words}
 use Rattle.ft_text.specs.Ledger.{joined_lines}
-use Rattle.ft_text.proofs.PlainBytes.{is_plain, plain, all_plain}
+use Rattle.ft_lines.specs.Plain.{is_plain, plain, all_plain}
 
 abbrev pub split : ℕ → List ℕ → List (List ℕ)
 split by bytes = slice_split (λ b. b == by) bytes

@@ -12,9 +12,11 @@ use Rattle.ft_text.specs.declared.record.SavedLine.{SavedLine}
 use Rattle.ft_text.specs.Record.{LedgerAccount}
 use Rattle.ft_text.specs.Ledger.{head_line, play_line, entry_line, refusal_line, tick_line, tick_lines, hand_line, saved_line, saved_lines, end_line, ledger_lines, ledger_text, joined_lines}
 use Rattle.ft_text.specs.LedgerWords.{said, head, play, entry, refusal, tick, hand, saved, end}
-use Rattle.ft_text.specs.LedgerReading.{LedgerPlace, LinesReading, line_number, one_line, line_at, line_or_wrong, lines_from, while_some, also, many, lines_of, maybe_line, none_or, is_end, over, follow, ◌>>=◌, ledger, ledger_value, ledger_start, ledger_of}
+use Rattle.ft_lines.specs.Sequence.{follow, ◌>>=◌, read_value}
+use Rattle.ft_text.specs.LedgerReading.{LedgerPlace, LinesReading, line_number, one_line, line_at, line_or_wrong, lines_from, while_some, also, many, lines_of, maybe_line, none_or, is_end, over, ledger, ledger_start, ledger_of}
 use Rattle.ft_text.proofs.SplitsBack.{split}
 use Rattle.ft_text.proofs.LinesExact.{head_line_is, play_line_is, entry_line_is, refusal_line_is, tick_line_is, hand_line_is, saved_line_is, end_line_is}
+use Rattle.ft_text.specs.Known.{Known}
 
 -- ---- one line
 
@@ -169,7 +171,7 @@ followed : {A B : Type 0} (r : Result (A × LedgerPlace) ℕ) (next : A → Line
 followed (Ok read) next y h = record { x = read.0; place = read.1; first = refl; behind = h }
 followed (Err n) next y h = not_both n y h
 
-pub valued : (r : Result (LedgerAccount × LedgerPlace) ℕ) (a : LedgerAccount) → ledger_value r ≡ Ok a → (q : LedgerPlace) × (r ≡ Ok (a, q))
+pub valued : (r : Result (LedgerAccount × LedgerPlace) ℕ) (a : LedgerAccount) → read_value r ≡ Ok a → (q : LedgerPlace) × (r ≡ Ok (a, q))
 valued (Ok read) a h =
     let same : read.0 ≡ a = cc in
     (read.1, ap (λ x. Ok (x, read.1)) same)
@@ -373,15 +375,15 @@ pub record IsTextOf (bytes : List ℕ) (a : LedgerAccount) : Type 0 where
   pub most : form ≤ 2
   pub text : bytes ≡ ledger_text form a
 
-pub whole_exact : (bytes : List ℕ) (a : LedgerAccount) → ledger_of bytes ≡ Ok a → IsTextOf bytes a
+pub whole_exact : (known : Known) (bytes : List ℕ) (a : LedgerAccount) → ledger_of bytes ≡ Ok a → IsTextOf bytes a
 unfolding ledger_of ledger
-whole_exact bytes a h =
+whole_exact known bytes a h =
     let p = ledger_start bytes in
     let v = valued (ledger p) a h in
     let y : LedgerAccount × LedgerPlace = (a, v.0) in
     let k = followed (one_line (said head) p) from_play y v.1 in
     let line = one_exact (said head) p k.place k.x k.first in
-    let is = head_line_is line.line k.x line.says in
+    let is = head_line_is known line.line k.x line.says in
     let all : split 10 bytes ≡ head_line k.x ∷ (play_line a.run ∷ entries_on k.x a) =
     line.parts ∙ ap (λ l. l ∷ k.place.left) is.0 ∙ ap (λ r. head_line k.x ∷ r) (play_exact k.x k.place v.0 a k.behind) in
     record {

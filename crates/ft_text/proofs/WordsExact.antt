@@ -1,5 +1,5 @@
 -- What a line of a ledger says is what it was written of.
-use Rattle.std.proofs.Common.{◌≡◌, ℕ, ◌≤◌, ◌==◌, Bool, true, cond, ◌&&◌, ◌⊎◌, inl, inr, List, [], ◌∷◌, ◌++◌, length, nat_le, Option, Some, None, codes, decimal, ℤ, refl, sym, ap, ◌∙◌, arith, append_assoc}
+use Rattle.std.proofs.Common.{◌≡◌, ℕ, ◌≤◌, ◌==◌, Bool, true, cond, ◌&&◌, ◌⊎◌, inl, inr, List, [], ◌∷◌, ◌++◌, length, nat_le, Option, Some, None, codes, decimal, ℤ, refl, sym, ap, ◌∙◌, append_assoc}
 use Rattle.std.specs.Prelude.{bytes_eq}
 use Rattle.std.specs.Fmt.{signed_decimal}
 use Rattle.std.specs.Str.Parse.{digits_value, signed_digits_value}
@@ -15,15 +15,16 @@ use Rattle.ft_types.specs.declared.tick_report.TickReport.{TickReport}
 use Rattle.ft_text.specs.declared.record.Run.{Run}
 use Rattle.ft_text.specs.declared.record.HandEnd.{HandEnd}
 use Rattle.ft_text.specs.declared.record.SavedLine.{SavedLine}
-use Rattle.ft_text.specs.Values.{number_of, signed_of, is_within}
-use Rattle.ft_text.specs.Words.{numbers}
-use Rattle.ft_text.specs.Texts.{batch_text}
-use Rattle.ft_text.specs.Reading.{spaces}
-use Rattle.ft_text.specs.Edits.{named}
-use Rattle.ft_text.specs.Lines.{this_word, beginning}
+use Rattle.ft_lines.specs.Values.{number_of, signed_of, is_within}
+use Rattle.ft_lines.specs.Words.{numbers}
+use Rattle.ft_lines.specs.Texts.{batch_text}
+use Rattle.ft_lines.specs.Reading.{spaces}
+use Rattle.ft_lines.specs.Edits.{named}
+use Rattle.ft_lines.specs.Lines.{this_word, beginning}
 use Rattle.ft_text.specs.Ledger.{hand_cause, fault_words, cause_words, place_words}
 use Rattle.ft_text.specs.LedgerWords.{Taking, give, follow, ◌>>=◌, with_rest, word, u8_word, if_text, each_edit, batch_of, most_edits, batch, only_if, form_of, head, play, no_pattern, no_row, no_channel, no_order, no_instrument, range, too_many, no_sample, cut, fault_by, fault, place, edit_cause, worn_cause, full_cause, cause_readings, cause, tick, hand_from, hand_causes, hand, saved_name, saved, is_told, status_of, end}
 use Rattle.ft_text.proofs.SplitsBack.{split}
+use Rattle.ft_text.specs.Known.{Known}
 
 -- ---- words
 
@@ -132,15 +133,6 @@ play_exact words rest run h =
           (ap (λ r. r.status) last.0),
     )
 
-pub number_within : (most n : ℕ) (w : List ℕ) → number_of most w ≡ Some n → n ≤ most
-number_within most n w h = elim (cases_Bool (bytes_eq w (decimal (digits_value 10 w)) && nat_le (digits_value 10 w) most)) [
-  | inl so ↦
-      let e : Some (digits_value 10 w) ≡ Some n = sym (cond-true _ (Some (digits_value 10 w)) None so) ∙ h in
-      let same : digits_value 10 w ≡ n = cc in
-      omega (arith, leb-true (digits_value 10 w) most (and_parts _ _ so).1)
-  | inr other ↦ absurd (cc (cond-false _ (Some (digits_value 10 w)) None other, h))
-]
-
 -- a word that is taken last
 pub record Last {A : Type 0} (value : List ℕ → Option A) (words rest : List (List ℕ)) (x : A) : Type 0 where
   pub w : List ℕ
@@ -161,16 +153,16 @@ last_word {A} value (w ∷ behind) rest x h =
     ] in
     go (value w) refl h
 
-pub head_exact : (words rest : List (List ℕ)) (form : ℕ) → head words ≡ Some (form, rest)
+pub head_exact : (known : Known) (words rest : List (List ℕ)) (form : ℕ) → head words ≡ Some (form, rest)
     → (words ≡ codes "xmstudio" ∷ codes "ledger" ∷ decimal form ∷ rest) × (1 ≤ form) × (form ≤ 2)
-head_exact words rest form h =
+head_exact known words rest form h =
     let a = took (this_word (codes "xmstudio")) _ words (form, rest) h in
     let b = took (this_word (codes "ledger")) _ a.rest (form, rest) a.behind in
     let c = last_word form_of b.rest rest form b.behind in
     let test = passed (λ form. nat_le 1 form) (number_of 2 c.w) form c.value_is in (
       cc (a.words_are, b.words_are, c.words_are, this_is _ a.x a.w a.value_is, this_is _ b.x b.w b.value_is, number_is 2 form c.w test.0),
       leb-true 1 form test.1,
-      number_within 2 form c.w test.0,
+      known.number_within 2 form c.w test.0,
     )
 
 pub tick_exact : (n : ℕ) (words rest : List (List ℕ)) (t : TickReport) → tick n words ≡ Some (t, rest)

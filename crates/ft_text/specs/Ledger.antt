@@ -13,8 +13,8 @@ use Rattle.ft_types.specs.declared.tick_report.TickReport.{TickReport}
 use Rattle.ft_text.specs.declared.record.Run.{Run}
 use Rattle.ft_text.specs.declared.record.HandEnd.{HandEnd}
 use Rattle.ft_text.specs.declared.record.SavedLine.{SavedLine}
-use Rattle.ft_text.specs.Words.{numbers}
-use Rattle.ft_text.specs.Texts.{text_of_words, batch_text}
+use Rattle.ft_lines.specs.Words.{numbers}
+use Rattle.ft_lines.specs.Texts.{text_of_words, batch_text}
 use Rattle.ft_text.specs.Record.{LedgerAccount}
 
 -- which form it is

@@ -2,6 +2,7 @@
 use Rattle.std.specs.Prelude.{◌≡◌, ℕ, ◌==◌, List, [], ◌∷◌, ◌++◌, ◌+◌, length, nat_le, false, Option, Some, None, Result, Ok, Err, if◌then◌else◌}
 use Rattle.std.specs.List.{slice_split}
 use Rattle.ft_types.specs.declared.edit.Edit.{Edit}
+use Rattle.ft_lines.specs.Sequence.{ReadsBy}
 use Rattle.ft_text.specs.declared.record.LedgerFault.{LedgerFault}
 use Rattle.ft_text.specs.declared.record.LedgerFault.TheVariants.{Line, NoMemory}
 use Rattle.ft_text.specs.declared.record.Run.{Run}
@@ -48,8 +49,7 @@ LedgerFails (Line line) read = read ≡ Err line
 abbrev pub LedgerReads : {X A : Type 0} → (X → A) → Result X LedgerFault → LedgerPlace
     → Result (A × LedgerPlace) ℕ
     → Type 0
-LedgerReads view (Ok x) next read = read ≡ Ok (view x, next)
-LedgerReads view (Err fault) next read = LedgerFails fault read
+LedgerReads view answer next read = ReadsBy LedgerFails view answer next read
 
 -- out of memory is answered only of bytes whose first two lines are right
 abbrev pub HasFront : LedgerFault → LedgerPlace → Type 0

@@ -1,6 +1,8 @@
 -- What is written of an account is read again.
-use Rattle.std.specs.Prelude.{◌≡◌, ◌^◌, ◌<◌, All, Ok, IfSome, FitsSigned, length, ◌≢◌, None}
+use Rattle.std.specs.Prelude.{◌≡◌, ℕ, ◌^◌, ◌<◌, ◌≤◌, List, All, Ok, IfSome, FitsSigned, length, ◌≢◌, None}
 use Rattle.std.specs.Int.{w64}
+use Rattle.ft_types.specs.declared.edit.Edit.{Edit}
+use Rattle.ft_types.specs.EditParts.{EditHasRanges}
 use Rattle.ft_types.specs.declared.journal.Entry.{Entry}
 use Rattle.ft_types.specs.declared.journal.Refusal.{Refusal}
 use Rattle.ft_types.specs.declared.edit_fault.EditFault.{EditFault}
@@ -11,7 +13,7 @@ use Rattle.ft_types.specs.declared.tick_report.TickReport.{TickReport}
 use Rattle.ft_text.specs.declared.record.Run.{Run}
 use Rattle.ft_text.specs.declared.record.HandEnd.{HandEnd}
 use Rattle.ft_text.specs.declared.record.SavedLine.{SavedLine}
-use Rattle.ft_text.specs.ReadBack.{IsBatch}
+use Rattle.ft_lines.specs.ReadBack.{IsBatch}
 use Rattle.ft_text.specs.Record.{LedgerAccount, IsTellable}
 use Rattle.ft_text.specs.Ledger.{ledger_text}
 use Rattle.ft_text.specs.LedgerReading.{ledger_of}
@@ -20,6 +22,11 @@ use Rattle.ft_text.specs.LedgerReading.{ledger_of}
 abbrev pub RunHasRanges : Run → Type 0
 RunHasRanges run = (run.rate < 2 ^ 32) × (run.seconds < 2 ^ 32) × (run.segments < 2 ^ 16)
     × (run.channels < 2 ^ 8)
+
+-- what the types of an entry say of it, but how many edits its batch has
+abbrev pub EntryIsTyped : Entry → Type 0
+EntryIsTyped entry = (entry.version < 2 ^ 32) × (entry.hand < 2 ^ 8) × (entry.seq < 2 ^ 32)
+    × All EditHasRanges entry.batch
 
 abbrev pub EntryHasRanges : Entry → Type 0
 EntryHasRanges entry = (entry.version < 2 ^ 32) × (entry.hand < 2 ^ 8) × (entry.seq < 2 ^ 32)
@@ -47,6 +54,12 @@ RefusalHasRanges refusal =
     (refusal.hand < 2 ^ 8) × (refusal.seq < 2 ^ 32) × IsBatch refusal.batch
     × CauseHasRanges refusal.cause
 
+-- what the types of a refusal say of it, but how many edits its batch has
+abbrev pub RefusalIsTyped : Refusal → Type 0
+RefusalIsTyped refusal =
+    (refusal.hand < 2 ^ 8) × (refusal.seq < 2 ^ 32) × All EditHasRanges refusal.batch
+    × CauseHasRanges refusal.cause
+
 abbrev pub TickHasRanges : TickReport → Type 0
 TickHasRanges tick =
     (tick.version < 2 ^ 32) × (tick.order < 2 ^ 16) × (tick.row < 2 ^ 16) × (tick.tick < 2 ^ 16)
@@ -65,6 +78,18 @@ pub record AccountHasRanges (account : LedgerAccount) : Type 0 where
   pub ticks : All TickHasRanges account.ticks
   pub hands : All HandHasRanges account.hands
   pub saved : IfSome account.saved SavedHasRanges
+
+-- each batch has 1 to 16 edits
+abbrev pub IsBatchLength : List Edit → Type 0
+IsBatchLength edits = (1 ≤ length edits) × (length edits ≤ 16)
+
+pub record HasBatches (account : LedgerAccount) : Type 0 where
+  pub entries : All (λ entry. IsBatchLength entry.batch) account.entries
+  pub refusals : All (λ refusal. IsBatchLength refusal.batch) account.refusals
+
+-- what was printed of an account says that account
+abbrev pub IsLedgerReadBack : LedgerAccount → List ℕ → Type 0
+IsLedgerReadBack account text = HasBatches account → ledger_of text ≡ Ok account
 
 -- an edit's place in its batch is the first
 abbrev pub IsFirst : CommitFault → Type 0

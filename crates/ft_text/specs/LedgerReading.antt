@@ -3,6 +3,7 @@
 use Rattle.std.specs.Prelude.{ℕ, suc, ◌+◌, ◌==◌, Bool, true, false, List, [], ◌∷◌, length, min, Option, Some, None, Result, Ok, Err, if◌then◌else◌}
 use Rattle.std.specs.List.{slice_split}
 use Rattle.ft_text.specs.LedgerWords.{said, head, play, entry, refusal, tick, hand, saved, end}
+use Rattle.ft_lines.specs.Sequence.{ReadingOf, ◌>>=◌, read_value}
 use Rattle.ft_text.specs.Record.{LedgerAccount}
 
 -- a place in a ledger: how many lines are before it, and the parts from there on
@@ -12,7 +13,7 @@ pub record LedgerPlace : Type 0 where
 
 -- a value and the place behind it, or the number of the line that can't be there
 abbrev pub LinesReading : Type 0 → Type 0
-LinesReading A = LedgerPlace → Result (A × LedgerPlace) ℕ
+LinesReading A = ReadingOf LedgerPlace ℕ A
 
 -- the number of the line behind that many, from 1; the greatest u32 stands for any from there on
 abbrev pub line_number : ℕ → ℕ
@@ -82,15 +83,6 @@ is_end _ = false
 unfoldable pub over : {A : Type 0} → A → LinesReading A
 over x p = if is_end p.left then Ok (x, p) else Err (line_number p.at)
 
-abbrev pub follow : {A B : Type 0} → (A → LinesReading B) → Result (A × LedgerPlace) ℕ
-    → Result (B × LedgerPlace) ℕ
-follow next (Ok read) = next read.0 read.1
-follow next (Err line) = Err line
-
-infixl 10 ◌>>=◌
-abbrev pub ◌>>=◌ : {A B : Type 0} → LinesReading A → (A → LinesReading B) → LinesReading B
-(first >>= next) p = follow next (first p)
-
 -- a whole ledger
 unfoldable pub ledger : LinesReading LedgerAccount
 ledger = do
@@ -111,14 +103,10 @@ ledger = do
     saved = song;
   })
 
-abbrev pub ledger_value : {A : Type 0} → Result (A × LedgerPlace) ℕ → Result A ℕ
-ledger_value (Ok read) = Ok read.0
-ledger_value (Err line) = Err line
-
 abbrev pub ledger_start : List ℕ → LedgerPlace
 ledger_start bytes = record { at = 0; left = slice_split (λ b. b == 10) bytes }
 
 -- what bytes say as a ledger, or the first line that can't be there; where a line is missing at the
 -- end it is the one behind the last
 unfoldable pub ledger_of : List ℕ → Result LedgerAccount ℕ
-ledger_of bytes = ledger_value (ledger (ledger_start bytes))
+ledger_of bytes = read_value (ledger (ledger_start bytes))

@@ -12,10 +12,10 @@ use Rattle.ft_types.specs.declared.tick_report.TickReport.{TickReport}
 use Rattle.ft_text.specs.declared.record.Run.{Run}
 use Rattle.ft_text.specs.declared.record.HandEnd.{HandEnd}
 use Rattle.ft_text.specs.declared.record.SavedLine.{SavedLine}
-use Rattle.ft_text.specs.Values.{number_of, signed_of}
-use Rattle.ft_text.specs.Texts.{batch_text}
-use Rattle.ft_text.specs.Edits.{named}
-use Rattle.ft_text.specs.Lines.{this_word, line_of}
+use Rattle.ft_lines.specs.Values.{number_of, signed_of}
+use Rattle.ft_lines.specs.Texts.{batch_text}
+use Rattle.ft_lines.specs.Edits.{named}
+use Rattle.ft_lines.specs.Lines.{this_word, line_of}
 
 -- ---- words of a line
 

@@ -1,11 +1,4 @@
-pub mod Words
-pub mod Texts
-pub mod Reading
-pub mod Values
-pub mod Edits
-pub mod Lines
-pub mod Answers
-pub mod ReadBack
+pub mod Known
 pub mod Record
 pub mod Ledger
 pub mod LedgerWords
@@ -13,4 +6,3 @@ pub mod LedgerReading
 pub mod LedgerAnswers
 pub mod LedgerBack
 pub mod LedgerExact
-pub mod ReadRanges

@@ -5,16 +5,13 @@ ghost use Rattle.std.specs.Bool.{OnTrue};
 ghost use Rattle.ft_types.specs.Edits.{IsGivable};
 ghost use Rattle.ft_text.specs.Record.{CanBeEntered, CanBeRefused};
 ghost use Rattle.std.specs.Option.{option_copied};
-ghost use Rattle.ft_text.specs.Lines.{line_of};
+ghost use Rattle.ft_lines.specs.Lines.{line_of};
 ghost use Rattle.ft_text.specs.LedgerWords.{said, one_edit, each_edit, batch_of, most_edits, entry, refusal};
 ghost use Rattle.ft_text.specs.LedgerAnswers.{parts_left, behind, few_edits};
 
-use crate::fault::LineFault;
 use crate::ledger_takes::cause;
 use crate::ledger_words::{Words, next_of};
-use crate::print::print_batch;
-use crate::read::read_edit;
-use crate::timed::Timed;
+use ft_lines::{LineFault, Timed, print_batch, read_edit};
 use ft_types::{Batch, BatchFault, Edit, Entry, NoMemory, Refusal};
 use std::alloc::Global;
 

@@ -5,12 +5,12 @@ ghost use Rattle.std.specs.Bool.{OnTrue};
 ghost use Rattle.std.specs.Option.{option_copied};
 ghost use Rattle.ft_text.specs.Record.{IsEndStatus};
 ghost use Rattle.std.specs.List.{slice_split, position_or_len, join_with_byte};
-ghost use Rattle.ft_text.specs.Values.{number_of, signed_of};
-ghost use Rattle.ft_text.specs.Edits.{named};
+ghost use Rattle.ft_lines.specs.Values.{number_of, signed_of};
+ghost use Rattle.ft_lines.specs.Edits.{named};
 ghost use Rattle.ft_text.specs.LedgerWords.{word, this, u8_word, u16_word, u32_word, u64_word, form_of, hand_from, hand_causes, saved_name, is_told, status_of};
 ghost use Rattle.ft_text.specs.LedgerAnswers.{Takes, parts_left};
 
-use crate::ledger_numbers::{number, signed};
+use ft_lines::{number, signed};
 use itoa::Buffer;
 use std::marker::Model;
 
@@ -183,7 +183,7 @@ impl<'a> Words<'a> {
         ensures { Takes (λ n. n) result self.new (word (signed_of 9223372036854775807) self.old) }
     {
         let word = self.next()?;
-        signed(word)
+        signed(word, 9_223_372_036_854_775_807)
     }
 
     /// This count.

@@ -1,7 +1,7 @@
 //! Lines of scripts.
 
 use crate::kinds::numbers;
-use ft_text::{LineFault, Timed, TimedBatch, print_batch, print_edit, read_batch, read_edit};
+use ft_lines::{LineFault, Timed, TimedBatch, print_batch, print_edit, read_batch, read_edit};
 use std::alloc::{AllocError, Global};
 use std::test::Fail;
 

@@ -18,15 +18,15 @@ returns-clause-settled c = wrong_line_settles
 pub returns-clause-front : goal.returns-clause-front
 returns-clause-front c lines rest are small wrong a other tellable ranges =
     let there = wrong_line_settles lines rest other are small wrong in (
-      not_read _ _ _ a there (whole_back 2 a (in_form_2 a tellable ranges) tellable ranges),
-      λ old. not_read _ _ _ a there (whole_back 1 a (in_form_1 a old tellable ranges) tellable ranges),
+      not_read _ _ _ a there (whole_back c.known.ensures 2 a (in_form_2 c.known.ensures a tellable ranges) tellable ranges),
+      λ old. not_read _ _ _ a there (whole_back c.known.ensures 1 a (in_form_1 c.known.ensures a old tellable ranges) tellable ranges),
     )
 
 pub returns-clause-none : goal.returns-clause-none
 returns-clause-none c bytes line wrong a tellable ranges = (
-  not_read _ bytes line a wrong (whole_back 2 a (in_form_2 a tellable ranges) tellable ranges),
-  λ old. not_read _ bytes line a wrong (whole_back 1 a (in_form_1 a old tellable ranges) tellable ranges),
+  not_read _ bytes line a wrong (whole_back c.known.ensures 2 a (in_form_2 c.known.ensures a tellable ranges) tellable ranges),
+  λ old. not_read _ bytes line a wrong (whole_back c.known.ensures 1 a (in_form_1 c.known.ensures a old tellable ranges) tellable ranges),
 )
 
 pub returns-clause-first : goal.returns-clause-first
-returns-clause-first c = lines_go_on
+returns-clause-first c = lines_go_on c.known.ensures

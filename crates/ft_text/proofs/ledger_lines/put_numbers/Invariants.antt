@@ -1,6 +1,6 @@
 -- the numbers that were passed are behind what was there
 use Rattle.std.proofs.Common.{◌≡◌, ◌++◌, map, take, decimal}
-use Rattle.ft_text.specs.Texts.{spaced}
+use Rattle.ft_lines.specs.Texts.{spaced}
 use Rattle.ft_text.proofs.ledger_lines.put_numbers.Given as goal
 
 abbrev pub invariant-loop-number : goal.invariant-loop-number

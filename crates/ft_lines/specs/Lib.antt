@@ -1,0 +1,12 @@
+pub mod Words
+pub mod Texts
+pub mod Sequence
+pub mod Reading
+pub mod Values
+pub mod Edits
+pub mod Lines
+pub mod Answers
+pub mod ReadBack
+pub mod Plain
+pub mod Numerals
+pub mod ReadRanges

@@ -1,5 +1,0 @@
-use Rattle.ft_text.proofs.LinesBack.{different_edits_have_different_texts}
-use Rattle.ft_text.proofs.laws.different_edits_have_different_texts.Goals as goal
-
-pub returns : goal.returns
-returns c = different_edits_have_different_texts
