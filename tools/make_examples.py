@@ -4,6 +4,7 @@ import math
 import pathlib
 
 from canonical import header, instrument, pattern, voiced
+from slow_mod import PERIODS
 
 HERE = pathlib.Path(__file__).resolve().parent.parent
 
@@ -125,7 +126,47 @@ def harbour():
     return song + b"".join(pattern(64, 4, cells) for cells in (quiet, tune, bells)) + harbour_instruments()
 
 
+def mod_cell(note=0, number=0, effect=0, parameter=0):
+    """A cell of a ProTracker module; notes count from 37, as those of songs."""
+    period = PERIODS[note - 37] if note else 0
+    return bytes([number // 16 * 16 + period // 256, period % 256, number % 16 * 16 + effect, parameter])
+
+
+def mod_sample(name, frames, volume=64, finetune=0, loop=(0, 1)):
+    """The header of a sample, whose loop counts pairs of frames, and its data."""
+    words = [value.to_bytes(2, "big") for value in (len(frames) // 2, *loop)]
+    head = name.ljust(22, b"\0") + words[0] + bytes([finetune % 16, volume]) + words[1] + words[2]
+    return head, bytes(frame % 256 for frame in frames)
+
+
+def lantern_pattern(root, tune):
+    """64 rows of bass, an arpeggio, a tune and a beat."""
+    cells = {}
+    for row in range(0, 64, 8):
+        cells[(row, 0)] = mod_cell(root, 1)
+        cells[(row, 3)] = mod_cell(37, 3)
+        cells[(row + 4, 3)] = mod_cell(49, 3, 12, 0x18)
+    for row in range(0, 64, 4):
+        cells[(row, 1)] = mod_cell(root + 12 if row % 16 == 0 else 0, 2 if row % 16 == 0 else 0, 0, 0x37)
+    for at, note in enumerate(tune):
+        cells[(8 * at, 2)] = mod_cell(note, 2, 4, 0x35)
+        cells[(8 * at + 4, 2)] = mod_cell(0, 0, 10, 0x02)
+    return b"".join(cells.get((row, channel), bytes(4)) for row in range(64) for channel in range(4))
+
+
+def lantern():
+    """A ProTracker module: two patterns, three samples, all else empty."""
+    samples = [mod_sample(b"bass", wave(64, [1, 0.5, 0.33], 110), 56, loop=(0, 32)),
+               mod_sample(b"reed", wave(32, [1, 0.4, 0.5], 100), 40, finetune=-1, loop=(0, 16)),
+               mod_sample(b"beat", kick(2600), 60)]
+    nothing = mod_sample(b"", [])
+    patterns = lantern_pattern(42, [61, 64, 66, 64, 61, 57, 59, 61]) + lantern_pattern(40, [59, 63, 66, 63, 59, 56, 54, 52])
+    return (b"lantern".ljust(20, b"\0") + b"".join(head for head, _ in samples + [nothing] * 28)
+            + bytes([4, 127]) + bytes([0, 1, 0, 1]).ljust(128, b"\0") + b"M.K." + patterns + b"".join(data for _, data in samples))
+
+
 write("examples/silence.xm", header(b"silence", [0], 2, 0, 0))
 write("examples/first.xm", first())
 write("examples/scale.xm", scale())
 write("examples/harbour.xm", harbour())
+write("examples/lantern.mod", lantern())

@@ -8,7 +8,7 @@ trap 'rm -rf "$work"' EXIT
 cd "$work" || exit 1
 failed=0
 
-usage='xmstudio: usage: live or step SONG WAV LEDGER [SCRIPT]... [--rate=N] [--seconds=N] [--segments=N]; copy SONG OUT; gen NUMBER OUT'
+usage='xmstudio: usage: live or step SONG WAV LEDGER [SCRIPT]... [--rate=N] [--seconds=N] [--segments=N]; copy SONG OUT; gen NUMBER OUT; import MOD OUT'
 
 # expect STATUS LINE WORDS..: runs the program; LINE is all of standard error, or - for any usage line
 expect() {
@@ -102,6 +102,15 @@ absent out.wav
 expect 3 'xmstudio: song refused: fault 1 0' copy other.xm out.wav
 absent out.wav
 expect 5 'xmstudio: output could not be written' copy "$silence" /dev/full
+
+# import
+expect 0 '' import songs/lantern.mod import.xm
+expect 0 '' step import.xm out.wav out.ledger --rate=8000 --seconds=1
+wav 32044
+expect 4 'xmstudio: song could not be read' import missing.mod out.wav
+expect 3 'xmstudio: song refused: mod fault 2 320 30' import "$silence" out.wav
+absent out.wav
+expect 5 'xmstudio: output could not be written' import songs/lantern.mod /dev/full
 [ "$("$here/xmstudio" gen 7 seven.xm)" = 'gen 7 bytes 571238 blocks 425 ticks 500 peak 26334' ] || { echo "gen 7 has another line"; failed=1; }
 [ "$(stat -c %s seven.xm)" = 571238 ] || { echo "gen 7 has other bytes"; failed=1; }
 expect 0 '' step seven.xm out.wav out.ledger --rate=8000 --seconds=1

@@ -6,7 +6,6 @@ use Rattle.std.proofs.lemmas.List.Elements.{All-nil, All-cons, All-head, All-tai
 use Rattle.std.proofs.lemmas.Option.{none-some, same_Some}
 use Rattle.ft_edits.specs.Versions.{IsCommitted, module_at}
 use Rattle.ft_shared.specs.declared.law.PlacedVersion.{PlacedVersion}
-use Rattle.ft_shared.specs.declared.law.TakenVersion.{TakenVersion}
 use Rattle.ft_shared.specs.declared.law.Notes.{Notes}
 use Rattle.ft_shared.specs.History.{placed_at, Agrees, HasVersion, HasTakenVersion, HasRead}
 use Rattle.ft_shared.specs.Pass.{RegisterId, ReaderState}

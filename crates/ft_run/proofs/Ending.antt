@@ -1,5 +1,5 @@
 -- How `step` ends, by what was read and how it was played.
-use Rattle.std.proofs.Common.{◌≡◌, ◌≢◌, ◌⊎◌, inl, inr, ℕ, ◌<◌, ◌≤◌, List, Option, refl, sym, ap, subst, ◌∙◌, arith, Ok, Err}
+use Rattle.std.proofs.Common.{◌≡◌, ◌≢◌, inl, inr, ℕ, List, Option, refl, sym, ap, subst, ◌∙◌, arith, Ok, Err}
 use Rattle.std.specs.Prelude.{IfErr, IfOk, IfSome, Result}
 use Rattle.std.specs.Io.KnownBytes.{Appends}
 use Rattle.std.proofs.lemmas.Bool.{cases_lt}
@@ -16,6 +16,7 @@ use Rattle.ft_run.specs.Songs.{IsReadAs, IsSongFile, ReadsSong, ending}
 use Rattle.ft_run.specs.Statuses.{IsAccepted, IsCounted, IsDone, IsOfStep, IsPlayEnd, IsUnread}
 use Rattle.ft_run.specs.declared.status.Status.{Status}
 use Rattle.ft_run.specs.declared.status.SongFault.{SongFault}
+use Rattle.ft_run.specs.declared.status.SongFault.TheVariants.{Xm, TooBig}
 use Rattle.ft_run.specs.declared.status.Status.TheVariants as statuses
 use Rattle.ft_run.proofs.Pool.{small_tells, unread_done, unread_tells, wide_tells}
 use Rattle.ft_run.proofs.Songs.{goes_on}
@@ -23,7 +24,8 @@ use Rattle.ft_run.proofs.Songs.{goes_on}
 -- ---- statuses
 
 unread_of_step : (status : Status) → IsUnread status → IsOfStep status
-unread_of_step (statuses.Song fault) unread = tt
+unread_of_step (statuses.Song (Xm fault)) unread = tt
+unread_of_step (statuses.Song TooBig) unread = tt
 unread_of_step statuses.SongRead unread = tt
 unread_of_step statuses.NoMemory unread = tt
 unread_of_step status unread = absurd unread

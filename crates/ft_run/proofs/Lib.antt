@@ -6,3 +6,5 @@ pub mod Missing
 pub mod Settled
 pub mod TicksPlayed
 pub mod Ending
+pub mod Mods
+pub mod Asked

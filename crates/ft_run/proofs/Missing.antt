@@ -1,5 +1,5 @@
 -- Ticks of which frames are missing, and their sound.
-use Rattle.std.proofs.Common.{◌≡◌, ℕ, zero, suc, ◌+◌, ◌-◌, ◌*◌, ◌≤◌, ◌==◌, false, ℤ, List, [], ◌∷◌, ◌++◌, length, take, min, replicate, refl, ap, sym, subst, ◌∙◌, arith, append_assoc, ltb}
+use Rattle.std.proofs.Common.{◌≡◌, ℕ, zero, suc, ◌+◌, ◌-◌, ◌*◌, ◌≤◌, ◌==◌, false, ℤ, List, [], ◌∷◌, ◌++◌, length, take, min, replicate, refl, ap, sym, ◌∙◌, arith, append_assoc, ltb}
 use Rattle.std.proofs.lemmas.Bool.{cond_both, ltb-true, ltb-false, ne_eqb}
 use Rattle.std.proofs.lemmas.List.{append-nil, length-append, take_all, take-append-le}
 use Rattle.std.proofs.Math.Seq.{take-append-add}

@@ -1,5 +1,5 @@
 -- What a player played for a stage, once its pass is settled: ticks of the stage's song.
-use Rattle.std.proofs.Common.{◌≡◌, ◌⊎◌, inl, inr, ℕ, zero, suc, List, [], ◌∷◌, Option, Some, None, IsSome, length, replicate, refl, sym, ap, subst, ◌∙◌}
+use Rattle.std.proofs.Common.{◌≡◌, ◌⊎◌, inl, inr, ℕ, List, [], ◌∷◌, Option, Some, None, IsSome, length, replicate, refl, sym, ap, subst, ◌∙◌}
 use Rattle.std.specs.Prelude.{◌↔◌, All, IsSomeAnd}
 use Rattle.std.specs.List.{Contains}
 use Rattle.std.proofs.lemmas.List.Elements.{All-contains, All-head, All-tail}
@@ -21,7 +21,7 @@ use Rattle.ft_player.specs.Behind.{AreSongsBehind}
 use Rattle.ft_player.specs.Player.{PlayerState, HasClosed, stood_by}
 use Rattle.ft_run.specs.declared.stage.Stage.{Stage}
 use Rattle.ft_run.specs.Stage.{IsSet}
-use Rattle.ft_run.specs.Ticks.{HaveLooked, HasPlayedTicks, HasTakenNumber, ticks_played}
+use Rattle.ft_run.specs.Ticks.{HaveLooked, HasPlayedTicks, HasTakenNumber}
 use Rattle.ft_run.proofs.DeskSongs.{all_too, desk_songs, stand_behind, each_committed}
 use Rattle.ft_run.proofs.Missing.{song_ticks}
 

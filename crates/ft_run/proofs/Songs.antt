@@ -26,10 +26,10 @@ told_file old new file bytes e all =
     let told : GivesAll (Some file) new bytes = subst (λ (held : Option (List ℕ)). GivesAll held new bytes) e all in
     told.0
 
-told_more : (old : Option (List ℕ)) (file : List ℕ) (most : ℕ) → old ≡ Some file → HasMore old most → most < length file
+pub told_more : (old : Option (List ℕ)) (file : List ℕ) (most : ℕ) → old ≡ Some file → HasMore old most → most < length file
 told_more old file most e more = subst (λ (held : Option (List ℕ)). HasMore held most) e more
 
-told_end : (old new : Option (List ℕ)) (bytes : List ℕ) → GivesAll old new bytes → IfSome old (λ _. new ≡ Some [])
+pub told_end : (old new : Option (List ℕ)) (bytes : List ℕ) → GivesAll old new bytes → IfSome old (λ _. new ≡ Some [])
 told_end (Some file) new bytes all = all.1
 told_end old new bytes all = tt
 

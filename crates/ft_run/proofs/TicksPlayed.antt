@@ -1,6 +1,5 @@
 -- A player that plays one tick more.
-use Rattle.std.proofs.Common.{◌≡◌, ◌⊎◌, inl, inr, ℕ, ◌+◌, ◌*◌, ◌≤◌, ℤ, List, [], ◌∷◌, ◌++◌, Option, Some, None, length, take, refl, ap, sym, subst, ◌∙◌, arith, append-nil, append_assoc, take-take}
-use Rattle.std.specs.Prelude.{All}
+use Rattle.std.proofs.Common.{◌≡◌, inl, inr, ℕ, ◌*◌, ◌≤◌, ℤ, List, [], ◌∷◌, ◌++◌, Option, Some, None, length, take, refl, ap, sym, subst, ◌∙◌, arith, append-nil, append_assoc, take-take}
 use Rattle.std.specs.List.{Contains}
 use Rattle.std.proofs.lemmas.List.{length-take}
 use Rattle.std.proofs.lemmas.List.Elements.{All-nil, All-push, AllZip-push, Contains-append_left}
@@ -13,7 +12,6 @@ use Rattle.ft_shared.specs.declared.law.Notes.{Notes}
 use Rattle.ft_shared.specs.declared.law.TakenVersion.{TakenVersion}
 use Rattle.ft_player.specs.declared.songs.Songs.{Songs}
 use Rattle.ft_player.specs.Songs.{song_at}
-use Rattle.ft_player.specs.Behind.{AreSongsBehind}
 use Rattle.ft_player.specs.Player.{PlayerState, ForAllBehind, HasLooked, IsPlayed, TakesAreOf, stood_by}
 use Rattle.ft_run.specs.Ticks.{HaveLooked, HasPlayedTicks, HasTakenNumber, NeverFall, last_version_of, number_held, state_played, ticks_played}
 use Rattle.ft_run.proofs.DeskSongs.{all_too}

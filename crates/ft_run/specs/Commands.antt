@@ -19,6 +19,9 @@ AskForCopy words = IsAskedBy words ask.Copy
 abbrev pub AskForGen : List (List ℕ) → Type 0
 AskForGen words = (number : ℕ) × IsAskedBy words (ask.Gen number)
 
+abbrev pub AskForImport : List (List ℕ) → Type 0
+AskForImport words = IsAskedBy words ask.Import
+
 -- the rate and the seconds with which a song can be played
 pub record IsPlayable (step : Step) : Type 0 where
   pub low_rate : lowest_rate ≤ step.rate

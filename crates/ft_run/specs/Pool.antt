@@ -5,6 +5,7 @@ use Rattle.ft_types.specs.declared.module.Module.{Module}
 use Rattle.ft_types.specs.Blocks.{blocks_of}
 use Rattle.ft_types.specs.Valid.{IsValid}
 use Rattle.ft_format.specs.Spelling.{Spells}
+use Rattle.ft_modread.specs.Songs.{SpellsMod}
 use Rattle.ft_outer.specs.Counts.{Rose}
 use Rattle.ft_outer.specs.Pieces.{TakesFront}
 use Rattle.ft_words.specs.declared.answer.Step.{Step}
@@ -19,6 +20,10 @@ use Rattle.ft_run.specs.declared.status.Status.TheVariants.{Done, PoolSmall, Wav
 -- the source holds the bytes of this song
 abbrev pub HoldsSong : Option (List ℕ) → Module → Type 0
 HoldsSong held song = (file : List ℕ) × IsSongFile held file × Spells file song
+
+-- the source holds the bytes of a ProTracker module that spell this song
+abbrev pub HoldsMod : Option (List ℕ) → Module → Type 0
+HoldsMod held song = (file : List ℕ) × IsSongFile held file × SpellsMod file song
 
 -- these are the segments that a song wants and those of a pool, which are fewer; where the source
 -- is known, the song is that of its bytes
@@ -47,6 +52,7 @@ CanBeDone (ask.Step step) held =
     (song : Module) × HoldsSong held song × (blocks_of song ≤ step.segments)
 CanBeDone ask.Copy held = (song : Module) × HoldsSong held song
 CanBeDone (ask.Gen number) held = Unit {0}
+CanBeDone ask.Import held = (song : Module) × HoldsMod held song
 
 -- the count didn't rise
 abbrev pub NeverRose : ℕ → ℕ → Type 0

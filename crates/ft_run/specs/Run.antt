@@ -6,6 +6,7 @@ use Rattle.ft_types.specs.Valid.{IsValid}
 use Rattle.ft_types.specs.Blocks.{blocks_of}
 use Rattle.ft_format.specs.Canon.{canon}
 use Rattle.ft_format.specs.Spelling.{Spells}
+use Rattle.ft_modread.specs.Songs.{SpellsMod}
 use Rattle.ft_replay.specs.Replay.{sound_of_song}
 use Rattle.ft_run.specs.Measure.{peak_of_song, ticks_of_song}
 use Rattle.ft_out.specs.Wav.{wav_bytes}
@@ -38,6 +39,13 @@ pub record IsCopy (held : Option (List ℕ)) (bytes : List ℕ) : Type 0 where
   pub told : IfSome held (λ file. Spells file song)
   pub written : bytes ≡ canon song
 
+-- the canonical bytes of the module that the source held, where that is known
+pub record IsImport (held : Option (List ℕ)) (bytes : List ℕ) : Type 0 where
+  pub song : Module
+  pub valid : IsValid song
+  pub told : IfSome held (λ file. SpellsMod file song)
+  pub written : bytes ≡ canon song
+
 -- a line of five numbers
 abbrev pub generated_line : ℕ → ℕ → ℕ → ℕ → ℕ → List ℕ
 generated_line number bytes blocks ticks peak =
@@ -65,6 +73,7 @@ abbrev pub IsWritten : Asked → Option (List ℕ) → List ℕ → Type 0
 IsWritten (ask.Step step) held bytes = IsOutput step held bytes
 IsWritten ask.Copy held bytes = IsCopy held bytes
 IsWritten (ask.Gen number) held bytes = bytes ≡ canon (generated number)
+IsWritten ask.Import held bytes = IsImport held bytes
 
 -- what the words ask for is written as these bytes
 pub record IsAskedFor (words : List (List ℕ)) (held : Option (List ℕ)) (bytes : List ℕ)

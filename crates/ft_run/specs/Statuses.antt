@@ -4,17 +4,20 @@ use Rattle.ft_types.specs.declared.module.Module.{Module}
 use Rattle.ft_outer.specs.Counts.{Rose}
 use Rattle.ft_xmread.specs.declared.fault.XmFault.{XmFault}
 use Rattle.ft_xmread.specs.declared.fault.XmFault.TheVariants as faults
+use Rattle.ft_modread.specs.declared.fault.ModFault.{ModFault}
+use Rattle.ft_modread.specs.declared.fault.ModFault.TheVariants as mods
 use Rattle.ft_run.specs.declared.status.SongFault.{SongFault}
 use Rattle.ft_run.specs.declared.status.Status.{Status}
 use Rattle.ft_run.specs.declared.status.Status.TheVariants.{Done, Usage, Song, SongRead, WavWrite, LedgerWrite, PoolSmall, NoMemory}
-use Rattle.ft_run.specs.declared.status.SongFault.TheVariants.{Xm, TooBig}
+use Rattle.ft_run.specs.declared.status.SongFault.TheVariants.{Xm, Mod, TooBig}
 
 -- ---- what a command can end with
 
 -- `step`, so far
 abbrev pub IsOfStep : Status → Type 0
 IsOfStep Done = Unit {0}
-IsOfStep (Song fault) = Unit {0}
+IsOfStep (Song (Xm fault)) = Unit {0}
+IsOfStep (Song TooBig) = Unit {0}
 IsOfStep SongRead = Unit {0}
 IsOfStep WavWrite = Unit {0}
 IsOfStep (PoolSmall need had) = Unit {0}
@@ -39,6 +42,16 @@ IsOfGen LedgerWrite = Unit {0}
 IsOfGen NoMemory = Unit {0}
 IsOfGen status = ⊥
 
+-- `import`
+abbrev pub IsOfImport : Status → Type 0
+IsOfImport Done = Unit {0}
+IsOfImport (Song (Mod fault)) = Unit {0}
+IsOfImport (Song TooBig) = Unit {0}
+IsOfImport SongRead = Unit {0}
+IsOfImport WavWrite = Unit {0}
+IsOfImport NoMemory = Unit {0}
+IsOfImport status = ⊥
+
 -- words that are no command
 abbrev pub RefusesWords : Status → Type 0
 RefusesWords Usage = Unit {0}
@@ -49,10 +62,19 @@ RefusesWords status = ⊥
 
 -- a song that isn't read to its end, or isn't taken
 abbrev pub IsUnread : Status → Type 0
-IsUnread (Song fault) = Unit {0}
+IsUnread (Song (Xm fault)) = Unit {0}
+IsUnread (Song TooBig) = Unit {0}
 IsUnread SongRead = Unit {0}
 IsUnread NoMemory = Unit {0}
 IsUnread status = ⊥
+
+-- nor is a ProTracker module
+abbrev pub IsUnreadMod : Status → Type 0
+IsUnreadMod (Song (Mod fault)) = Unit {0}
+IsUnreadMod (Song TooBig) = Unit {0}
+IsUnreadMod SongRead = Unit {0}
+IsUnreadMod NoMemory = Unit {0}
+IsUnreadMod status = ⊥
 
 -- it ended before it began to write
 abbrev pub IsBeforePlay : Status → Type 0
@@ -120,6 +142,15 @@ refusal_of fault = Song (Xm fault)
 abbrev pub song_or_status : Result Module XmFault → Result Module Status
 song_or_status (Ok song) = Ok song
 song_or_status (Err fault) = Err (refusal_of fault)
+
+-- the same of a ProTracker module
+abbrev pub mod_refusal_of : ModFault → Status
+mod_refusal_of mods.NoMemory = NoMemory
+mod_refusal_of fault = Song (Mod fault)
+
+abbrev pub mod_or_status : Result Module ModFault → Result Module Status
+mod_or_status (Ok song) = Ok song
+mod_or_status (Err fault) = Err (mod_refusal_of fault)
 
 -- ---- counts of the outside
 

@@ -1,7 +1,6 @@
 -- What a player has played over some ticks, by the versions that it reported.
-use Rattle.std.specs.Prelude.{◌≡◌, ◌≤◌, ◌+◌, ◌-◌, ◌*◌, ◌++◌, ◌∷◌, [], ℕ, ℤ, List, Option, Some, None, Contains, All, length, take}
+use Rattle.std.specs.Prelude.{◌≡◌, ◌≤◌, ◌-◌, ◌*◌, ◌++◌, ◌∷◌, [], ℕ, ℤ, List, Option, Some, None, Contains, All, length, take}
 use Rattle.std.specs.List.{AllZip}
-use Rattle.ft_types.specs.declared.module.Module.{Module}
 use Rattle.ft_replay.specs.State.{SequentialState}
 use Rattle.ft_replay.specs.Tick.{Tick}
 use Rattle.ft_replay.specs.Replay.{ticks_from, state_after, sound_of_ticks}

@@ -1,12 +1,13 @@
 //! Runs of the commands that need no threads, over any source and any sinks.
 //!
-//! `run_plain` is the whole of it: it reads the words, and then plays a song, copies one or makes
-//! one. `Status` says how a run ended, and is printed as the program's line on standard error.
+//! `run_plain` is the whole of it: it reads the words, and then plays a song, copies one, makes
+//! one or imports one. `Status` says how a run ended, and is printed as the program's line on standard error.
 #![tactic(auto)]
 
 mod copying;
 mod generating;
 mod hearing;
+mod importing;
 mod laws;
 mod measure;
 mod play;

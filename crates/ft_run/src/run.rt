@@ -10,14 +10,15 @@ ghost use Rattle.ft_words.specs.declared.answer.Step.{Step};
 ghost use Rattle.ft_words.specs.Answer.{IsAskedBy};
 ghost use Rattle.ft_xmwrite.specs.Generate.{generated};
 ghost use Rattle.ft_run.specs.declared.song.TheConstants.{MOST_BYTES};
-ghost use Rattle.ft_run.specs.Commands.{texts, AskForStep, AskForCopy, AskForGen};
+ghost use Rattle.ft_run.specs.Commands.{texts, AskForStep, AskForCopy, AskForGen, AskForImport};
 ghost use Rattle.ft_run.specs.Pool.{CanBeDone, NeverRose, TellsPool};
 ghost use Rattle.ft_run.specs.Run.{IsAskedFor, gen_line};
-ghost use Rattle.ft_run.specs.Songs.{ReadsSong};
-ghost use Rattle.ft_run.specs.Statuses.{IsBeforePlay, IsCounted, IsDone, IsOfStep, IsOfCopy, IsOfGen, RefusesWords};
+ghost use Rattle.ft_run.specs.Songs.{ReadsMod, ReadsSong};
+ghost use Rattle.ft_run.specs.Statuses.{IsBeforePlay, IsCounted, IsDone, IsOfStep, IsOfCopy, IsOfGen, IsOfImport, RefusesWords};
 
 use crate::copying::copy_song;
 use crate::generating::generate_song;
+use crate::importing::import_song;
 use crate::status::{SongFault, Status};
 use crate::stepping::play_song;
 use ft_outer::{Sink, Source};
@@ -31,6 +32,7 @@ use std::alloc::Global;
 /// - `copy SONG OUT` reads a song and writes its canonical bytes to `wav`.
 /// - `gen NUMBER OUT` writes the canonical bytes of a generated song to `wav`, and a line to
 ///   `ledger`.
+/// - `import MOD OUT` reads a ProTracker module and writes the canonical bytes of its song to `wav`.
 ///
 /// The work goes in this order: the words, the song's bytes, the song, the pool, and then what is
 /// written; the first that fails is the answer. So each count of faults but that of the answer
@@ -56,13 +58,16 @@ pub fn run_plain<S: Source, W: Sink, L: Sink>(
     ensures of_step { AskForStep (texts words.now) → IsOfStep result }
     ensures of_copy { AskForCopy (texts words.now) → IsOfCopy result }
     ensures of_gen { AskForGen (texts words.now) → IsOfGen result }
+    ensures of_import { AskForImport (texts words.now) → IsOfImport result }
 
-    // The song is read by `step` and `copy`, and by no other words. It is too big exactly where
+    // The song is read by `step`, `copy` and `import`, and by no other words. It is too big exactly where
     // its source gave too much.
     ensures stepped { AskForStep (texts words.now)
         → ReadsSong S.left S.given S.faults song.old song.new result }
     ensures copied { AskForCopy (texts words.now)
         → ReadsSong S.left S.given S.faults song.old song.new result }
+    ensures imported { AskForImport (texts words.now)
+        → ReadsMod S.left S.given S.faults song.old song.new result }
     ensures too_big { (result ≡ Status.Song SongFault.TooBig)
         ↔ (S.given song.old + MOST_BYTES < S.given song.new) }
     ensures gen_reads_nothing { AskForGen (texts words.now) → song.new ≡ song.old }
@@ -117,6 +122,7 @@ pub fn run_plain<S: Source, W: Sink, L: Sink>(
         Ok(Asked::Step(step)) => play_song(alloc, step, song, wav),
         Ok(Asked::Copy) => copy_song(alloc, song, wav),
         Ok(Asked::Gen { number }) => generate_song(alloc, number, wav, ledger),
+        Ok(Asked::Import) => import_song(alloc, song, wav),
         Err(NamesFault::Usage) => Status::Usage,
         Err(NamesFault::NoMemory) => Status::NoMemory,
     }

@@ -3,6 +3,7 @@
 ghost use Rattle.std.specs.Prelude.{◌≡◌};
 ghost use Rattle.ft_run.specs.Codes.{code_of};
 
+use ft_modread::ModFault;
 use ft_xmread::XmFault;
 use std::fmt;
 
@@ -11,6 +12,9 @@ use std::fmt;
 pub enum SongFault {
     /// Its bytes have this fault, which is never that of running out of memory.
     Xm(XmFault),
+    /// The bytes of a ProTracker module have this fault, which is never that of running out of
+    /// memory.
+    Mod(ModFault),
     /// It has more than 67,108,864 bytes.
     TooBig,
 }
@@ -26,7 +30,7 @@ pub enum Status {
     Song(SongFault),
     /// The song could not be read.
     SongRead,
-    /// The WAV file, or the song of `copy` and `gen`, could not be written.
+    /// The WAV file, or the song of `copy`, `gen` and `import`, could not be written.
     WavWrite,
     /// The ledger, or the line of `gen`, could not be written.
     LedgerWrite,
@@ -81,10 +85,10 @@ impl fmt::Display for Status {
     }
 }
 
-/// What the whole program takes in the end. So far it knows `step` without scripts, `copy` and
-/// `gen`.
+/// What the whole program takes in the end. So far it knows `step` without scripts, `copy`,
+/// `gen` and `import`.
 const USAGE: &str =
-    "usage: live or step SONG WAV LEDGER [SCRIPT]... [--rate=N] [--seconds=N] [--segments=N]; copy SONG OUT; gen NUMBER OUT";
+    "usage: live or step SONG WAV LEDGER [SCRIPT]... [--rate=N] [--seconds=N] [--segments=N]; copy SONG OUT; gen NUMBER OUT; import MOD OUT";
 
 /// The number of the fault, and then the fault's own numbers.
 impl fmt::Display for SongFault {
@@ -92,6 +96,7 @@ impl fmt::Display for SongFault {
         match self {
             SongFault::TooBig => write!(f, "too big"),
             SongFault::Xm(fault) => write_fault(f, fault),
+            SongFault::Mod(fault) => write_mod_fault(f, fault),
         }
     }
 }
@@ -112,5 +117,15 @@ fn write_fault<W: fmt::Write>(f: &mut fmt::Formatter<W>, fault: &XmFault) -> fmt
             frames,
         } => write!(f, "fault 8 {instrument} {sample} {frames}"),
         XmFault::NoMemory => write!(f, "fault 9"),
+    }
+}
+
+/// `mod fault K` with the fault's numbers in the order of its fields.
+fn write_mod_fault<W: fmt::Write>(f: &mut fmt::Formatter<W>, fault: &ModFault) -> fmt::Result {
+    match *fault {
+        ModFault::NotMod { at } => write!(f, "mod fault 1 {at}"),
+        ModFault::Short { at, need } => write!(f, "mod fault 2 {at} {need}"),
+        ModFault::Count { at, found } => write!(f, "mod fault 3 {at} {found}"),
+        ModFault::NoMemory => write!(f, "mod fault 4"),
     }
 }

@@ -2,22 +2,22 @@
 
 use crate::runs::{SURE, is_refused, outcome_of};
 use ft_run::{SongFault, Status};
-use ft_songs::{Change, bare_instrument, one_note_song, one_note_with};
+use ft_songs::{Splice, bare_instrument, one_note_song, one_note_with};
 use ft_xmread::XmFault;
 use std::alloc::{AllocError, Global};
 use std::test::Fail;
 
 /// Changes of the song of one note, and the changes of its copy. Amiga periods are copied as they
 /// are; a cell that is spelled whole, and not behind a mask, is masked again.
-static COPIES: [(&[Change], &[Change]); 3] = [
+static COPIES: [(&[Splice], &[Splice]); 3] = [
     (&[], &[]),
     (
-        &[Change {
+        &[Splice {
             from: 74,
             to: 75,
             bytes: &[0],
         }],
-        &[Change {
+        &[Splice {
             from: 74,
             to: 75,
             bytes: &[0],
@@ -25,12 +25,12 @@ static COPIES: [(&[Change], &[Change]); 3] = [
     ),
     (
         &[
-            Change {
+            Splice {
                 from: 345,
                 to: 348,
                 bytes: &[0x31, 1, 0, 0, 0],
             },
-            Change {
+            Splice {
                 from: 343,
                 to: 344,
                 bytes: &[132],
@@ -41,7 +41,7 @@ static COPIES: [(&[Change], &[Change]); 3] = [
 ];
 
 /// Whether a song with the first changes is copied as one with the others.
-fn is_copied(alloc: Global, from: &[Change], to: &[Change]) -> Result<bool, AllocError> {
+fn is_copied(alloc: Global, from: &[Splice], to: &[Splice]) -> Result<bool, AllocError> {
     let outcome = outcome_of(alloc, "copy song out", &one_note_with(alloc, from)?, SURE)?;
     let wanted = one_note_with(alloc, to)?;
     Ok(
@@ -60,7 +60,7 @@ fn songs_are_copied_as_their_canonical_bytes(rt: HostRuntime) {
 
 /// The song of one note, and an instrument without samples whose head has this size.
 fn with_bare_instrument(alloc: Global, size: u8) -> Result<Vec<u8>, AllocError> {
-    let more = Change {
+    let more = Splice {
         from: 72,
         to: 73,
         bytes: &[2],

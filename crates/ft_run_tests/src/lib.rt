@@ -6,6 +6,8 @@ mod copying;
 #[cfg(test)]
 mod generating;
 #[cfg(test)]
+mod importing;
+#[cfg(test)]
 mod lines;
 #[cfg(test)]
 mod outside;

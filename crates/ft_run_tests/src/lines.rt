@@ -1,5 +1,6 @@
 //! The lines on standard error.
 
+use ft_modread::ModFault;
 use ft_run::{SongFault, Status};
 use ft_xmread::XmFault;
 use std::alloc::{AllocError, Global};
@@ -9,7 +10,7 @@ static LINES: [(Status, &str, u8); 9] = [
     (Status::Done, "done", 0),
     (
         Status::Usage,
-        "usage: live or step SONG WAV LEDGER [SCRIPT]... [--rate=N] [--seconds=N] [--segments=N]; copy SONG OUT; gen NUMBER OUT",
+        "usage: live or step SONG WAV LEDGER [SCRIPT]... [--rate=N] [--seconds=N] [--segments=N]; copy SONG OUT; gen NUMBER OUT; import MOD OUT",
         2,
     ),
     (Status::Song(SongFault::TooBig), "song refused: too big", 3),
@@ -72,6 +73,26 @@ static FAULTS: [(XmFault, &str); 9] = [
     (XmFault::NoMemory, "song refused: fault 9"),
 ];
 
+/// Each fault of a ProTracker module with its text.
+static MOD_FAULTS: [(ModFault, &str); 4] = [
+    (
+        ModFault::NotMod { at: 1081 },
+        "song refused: mod fault 1 1081",
+    ),
+    (
+        ModFault::Short { at: 952, need: 128 },
+        "song refused: mod fault 2 952 128",
+    ),
+    (
+        ModFault::Count {
+            at: 952,
+            found: 200,
+        },
+        "song refused: mod fault 3 952 200",
+    ),
+    (ModFault::NoMemory, "song refused: mod fault 4"),
+];
+
 /// Whether the text of a status is just this one.
 fn reads(alloc: Global, status: Status, line: &str) -> Result<bool, AllocError> {
     let text = format!(in alloc; "{status}")?;
@@ -90,6 +111,15 @@ fn each_status_has_its_line_and_its_code(rt: HostRuntime) {
 fn each_fault_has_its_line(rt: HostRuntime) {
     for (fault, line) in FAULTS.iter() {
         let status = Status::Song(SongFault::Xm(*fault));
+        assert!(rt; reads(rt.alloc(), status, line) == Ok(true), "{line}");
+        assert!(rt; status.code() == 3, "{line}");
+    }
+}
+
+#[test]
+fn each_fault_of_a_module_has_its_line(rt: HostRuntime) {
+    for (fault, line) in MOD_FAULTS.iter() {
+        let status = Status::Song(SongFault::Mod(*fault));
         assert!(rt; reads(rt.alloc(), status, line) == Ok(true), "{line}");
         assert!(rt; status.code() == 3, "{line}");
     }

@@ -8,7 +8,7 @@ use std::alloc::{AllocError, Global};
 use std::test::Fail;
 
 /// Words that are no command.
-static REFUSED: [&str; 31] = [
+static REFUSED: [&str; 34] = [
     "",
     "step",
     "step a b",
@@ -33,6 +33,9 @@ static REFUSED: [&str; 31] = [
     "copy a",
     "copy a b c",
     "copy a b --rate=8000",
+    "import a",
+    "import a b c",
+    "import a b --rate=8000",
     "gen 7 out --segments=64",
     "gen 7",
     "gen x out",

@@ -5,7 +5,7 @@ use std::alloc::{AllocError, Global};
 
 /// The bytes from `from` to before `to` become `bytes`. A place past the end stands for the end.
 #[derive(Clone, Copy)]
-pub struct Change<'a> {
+pub struct Splice<'a> {
     /// The first place that changes.
     pub from: usize,
     /// The first place behind it that doesn't; where it is `from`, bytes are put in.
@@ -15,7 +15,7 @@ pub struct Change<'a> {
 }
 
 /// Bytes with one change.
-fn changed_once(alloc: Global, song: &[u8], change: Change) -> Result<Vec<u8>, AllocError> {
+fn changed_once(alloc: Global, song: &[u8], change: Splice) -> Result<Vec<u8>, AllocError> {
     let front = song.get(..change.from).unwrap_or(song);
     let back = song.get(change.to..).unwrap_or(&[]);
     let mut changed = front.to_vec(alloc)?;
@@ -26,7 +26,7 @@ fn changed_once(alloc: Global, song: &[u8], change: Change) -> Result<Vec<u8>, A
 
 /// Bytes with these changes, one after the other; the places of each are those that the ones before
 /// it left.
-pub fn changed(alloc: Global, song: &[u8], changes: &[Change]) -> Result<Vec<u8>, AllocError> {
+pub fn changed(alloc: Global, song: &[u8], changes: &[Splice]) -> Result<Vec<u8>, AllocError> {
     let mut changed = song.to_vec(alloc)?;
     for change in changes {
         changed = changed_once(alloc, &changed, *change)?;
@@ -35,7 +35,7 @@ pub fn changed(alloc: Global, song: &[u8], changes: &[Change]) -> Result<Vec<u8>
 }
 
 /// The song of one note with these changes.
-pub fn one_note_with(alloc: Global, changes: &[Change]) -> Result<Vec<u8>, AllocError> {
+pub fn one_note_with(alloc: Global, changes: &[Splice]) -> Result<Vec<u8>, AllocError> {
     let song = one_note_song(alloc)?;
     changed(alloc, &song, changes)
 }

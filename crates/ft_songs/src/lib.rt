@@ -15,7 +15,7 @@ mod file;
 mod module;
 mod part;
 
-pub use change::{Change, changed, one_note_with};
+pub use change::{Splice, changed, one_note_with};
 pub use file::{SAMPLE_HEADER, one_note_song, silent_song};
 pub use module::{
     EMPTY, FLAT, NOTE, STILL, instrument_of, instrument_with, one_note_module, pattern_of,

@@ -9,8 +9,8 @@ use Rattle.ft_run.specs.declared.song.TheConstants.{MOST_BYTES}
 use Rattle.ft_run.specs.declared.status.Status.{Status}
 use Rattle.ft_run.specs.declared.status.Status.TheVariants as status
 use Rattle.ft_run.specs.declared.status.SongFault.TheVariants.{TooBig}
-use Rattle.ft_run.specs.Commands.{texts, AskForStep, AskForCopy, AskForGen}
-use Rattle.ft_run.specs.Statuses.{IsCounted, IsOfStep, IsOfCopy, IsOfGen, RefusesWords}
+use Rattle.ft_run.specs.Commands.{texts, AskForStep, AskForCopy, AskForGen, AskForImport}
+use Rattle.ft_run.specs.Statuses.{IsCounted, IsOfStep, IsOfCopy, IsOfGen, IsOfImport, RefusesWords}
 use Rattle.ft_studio.specs.declared.outside.Outside.{Outside}
 use Rattle.ft_studio.specs.declared.running.Ran.{Ran}
 use Rattle.ft_studio.specs.Outside.{first_name, closed_source, closed_sink, closed_sink_of}
@@ -31,6 +31,7 @@ pub record IsStatusOf (words : List (String Global)) (result : Status) : Type 0 
   pub of_step : AskForStep (texts words) → IsOfStep result
   pub of_copy : AskForCopy (texts words) → IsOfCopy result
   pub of_gen : AskForGen (texts words) → IsOfGen result
+  pub of_import : AskForImport (texts words) → IsOfImport result
 
 -- the status is the one to which the run on these files came: a failed read or write is told exactly
 -- where it was counted, and a song that is too big exactly where its file gave too much

@@ -1,4 +1,4 @@
--- The arguments of the three commands, and what a parse gives for each.
+-- The arguments of the four commands, and what a parse gives for each.
 use Rattle.std.proofs.Common.{ap, ◌≤◌, ◌<◌, ◌^◌, subst, Result, Ok, ◌∙◌, ◌≡◌, ℕ, true, true≢false, List, [], ◌∷◌, map, is_some, Option, Some, None, refl, sym, codes, string_bytes, String, Global}
 use Rattle.std.specs.Prelude.{option_map, slice_get, unwrap_or}
 use Rattle.std.specs.Str.Parse.{ParsesUnsigned}
@@ -12,7 +12,7 @@ use Rattle.clap.specs.Simple.{App}
 use Rattle.clap.proofs.WalkLemmas.{first_value-rows, one_text-rows}
 use Rattle.clap.specs.declared.builder.action.ArgAction.TheVariants.{Set}
 use Rattle.clap.specs.declared.parser.matches.ArgMatches.{ArgMatches}
-use Rattle.ft_words.specs.Commands.{copy_app, file_rule, gen_app, number_rule, option_rule, step_app, numbers_within}
+use Rattle.ft_words.specs.Commands.{copy_app, file_rule, gen_app, import_app, number_rule, option_rule, step_app, numbers_within}
 use Rattle.ft_words.specs.Answer.{IsNumberOf}
 use Rattle.ft_words.specs.Files.{IsNamed}
 use Rattle.ft_words.specs.Refused.{AreMatches, IsParseOf}
@@ -67,6 +67,14 @@ gen_number = record { sound = refl; there = refl; alone = refl; set = refl; one 
 pub gen_out : IsArgument gen_app 1 (file_rule (codes "out"))
 unfolding gen_app
 gen_out = record { sound = refl; there = refl; alone = refl; set = refl; one = refl; comes = refl; own = refl }
+
+pub import_mod : IsArgument import_app 0 (file_rule (codes "mod"))
+unfolding import_app
+import_mod = record { sound = refl; there = refl; alone = refl; set = refl; one = refl; comes = refl; own = refl }
+
+pub import_out : IsArgument import_app 1 (file_rule (codes "out"))
+unfolding import_app
+import_out = record { sound = refl; there = refl; alone = refl; set = refl; one = refl; comes = refl; own = refl }
 
 -- a parse has a text for the argument
 pub text_given : (a : App) (k : ℕ) (r : Rule) (m : ArgMatches) → IsArgument a k r → IsParseOf a m

@@ -6,7 +6,7 @@ use Rattle.clap.specs.declared.error.Error.{Error}
 use Rattle.clap.specs.declared.error.kind.ErrorKind.TheVariants as kind
 use Rattle.clap.specs.declared.builder.arg.Arg.{Arg}
 use Rattle.clap.specs.declared.builder.command.Command.{Command}
-use Rattle.ft_words.specs.Commands.{app_of_verb, bare_app, copy_app, file_rule, gen_app, number_rule, option_rule, step_app, numbers_within}
+use Rattle.ft_words.specs.Commands.{app_of_verb, bare_app, copy_app, file_rule, gen_app, import_app, number_rule, option_rule, step_app, numbers_within}
 use Rattle.ft_words.specs.declared.verb.Verb.{Verb}
 use Rattle.ft_words.specs.declared.verb.Verb.TheVariants as verb
 
@@ -20,6 +20,12 @@ pub copy_built : (p : App)
     → p ≡ copy_app
 unfolding copy_app
 copy_built p e = e
+
+pub import_built : (p : App)
+    → p ≡ with_rule (with_rule (bare_app (codes "import")) (file_rule (codes "mod"))) (file_rule (codes "out"))
+    → p ≡ import_app
+unfolding import_app
+import_built p e = e
 
 pub gen_built : (p : App)
     → p
@@ -37,12 +43,13 @@ pub step_built : (p : App)
 unfolding step_app
 step_built p e = e
 
--- the three commands are of the kind of which the parser's answer is exact
+-- the four commands are of the kind of which the parser's answer is exact
 pub all_simple : (v : Verb) → is_simple_and_free (app_of_verb v) ≡ true
-unfolding step_app copy_app gen_app
+unfolding step_app copy_app gen_app import_app
 all_simple verb.Step = refl
 all_simple verb.Copy = refl
 all_simple verb.Gen = refl
+all_simple verb.Import = refl
 
 -- an error of a kind other than running out of memory names a fault
 pub fault_told : (kinds : Kinds) (e : Error) → HasKind kinds e → (kind_of e ≡ kind.OutOfMemory → ⊥) → kinds ≢ []

@@ -30,20 +30,14 @@ one_step others a b h k = same_step a b (one_number step_app others _ _ _ h.rate
 
 one_of_verb : (v : Verb) (others : List Text) (a b : Asked) → AsksOf (Some v) others a → AsksOf (Some v) others b → a ≡ b
 one_of_verb verb.Step others (ask.Step a) (ask.Step b) h k = ap ask.Step (one_step others a b h k)
-one_of_verb verb.Step others (ask.Step a) ask.Copy h k = absurd k
-one_of_verb verb.Step others (ask.Step a) (ask.Gen n) h k = absurd k
-one_of_verb verb.Step others ask.Copy b h k = absurd h
-one_of_verb verb.Step others (ask.Gen m) b h k = absurd h
-one_of_verb verb.Copy others (ask.Step a) b h k = absurd h
-one_of_verb verb.Copy others ask.Copy (ask.Step b) h k = absurd k
+one_of_verb verb.Step others (ask.Step a) b h k = absurd k
 one_of_verb verb.Copy others ask.Copy ask.Copy h k = refl
-one_of_verb verb.Copy others ask.Copy (ask.Gen n) h k = absurd k
-one_of_verb verb.Copy others (ask.Gen m) b h k = absurd h
-one_of_verb verb.Gen others (ask.Step a) b h k = absurd h
-one_of_verb verb.Gen others ask.Copy b h k = absurd h
-one_of_verb verb.Gen others (ask.Gen m) (ask.Step b) h k = absurd k
-one_of_verb verb.Gen others (ask.Gen m) ask.Copy h k = absurd k
+one_of_verb verb.Copy others ask.Copy b h k = absurd k
 one_of_verb verb.Gen others (ask.Gen m) (ask.Gen n) h k = ap ask.Gen (one_number gen_app others _ _ _ h.number k.number)
+one_of_verb verb.Gen others (ask.Gen m) b h k = absurd k
+one_of_verb verb.Import others ask.Import ask.Import h k = refl
+one_of_verb verb.Import others ask.Import b h k = absurd k
+one_of_verb v others a b h k = absurd h
 
 one_of_some : (v : Option Verb) (others : List Text) (a b : Asked) → AsksOf v others a → AsksOf v others b → a ≡ b
 one_of_some None others a b h k = absurd h

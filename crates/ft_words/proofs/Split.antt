@@ -19,18 +19,15 @@ named_taken : (v : Verb) (others : List Text) (files : FileNames) → NamesOf (S
 named_taken verb.Step others files h = h.taken
 named_taken verb.Copy others files h = h.taken
 named_taken verb.Gen others files h = h.taken
+named_taken verb.Import others files h = h.taken
 
 asked_taken : (v : Verb) (others : List Text) (a : Asked) → AsksOf (Some v) others a
     → fault_of (app_of_verb v) others ≡ []
 asked_taken verb.Step others (ask.Step s) h = h.taken
-asked_taken verb.Step others ask.Copy h = absurd h
-asked_taken verb.Step others (ask.Gen n) h = absurd h
-asked_taken verb.Copy others (ask.Step s) h = absurd h
 asked_taken verb.Copy others ask.Copy h = h
-asked_taken verb.Copy others (ask.Gen n) h = absurd h
-asked_taken verb.Gen others (ask.Step s) h = absurd h
-asked_taken verb.Gen others ask.Copy h = absurd h
 asked_taken verb.Gen others (ask.Gen n) h = h.taken
+asked_taken verb.Import others ask.Import h = h
+asked_taken v others a h = absurd h
 
 module _ (words others : List (String Global)) (first : String Global) (shown : Text) (v : Verb)
     (split : IsFirstAndRest words first others) (same : shown ≡ string_bytes first) (named : verb_named shown ≡ Some v)

@@ -3,7 +3,7 @@ use Rattle.std.specs.Prelude.{◌≡◌, ◌≤◌, ℕ, List, [], ◌∷◌, Op
 use Rattle.std.specs.Str.Parse.{IsNumeral, digits_value, without_leading_plus}
 use Rattle.ft_types.specs.Limits.{lowest_rate, highest_rate}
 use Rattle.clap.specs.Words.{App, Text, fault_of, matches_of, one_of}
-use Rattle.ft_words.specs.Commands.{copy_app, gen_app, step_app}
+use Rattle.ft_words.specs.Commands.{copy_app, gen_app, import_app, step_app}
 use Rattle.ft_words.specs.Refused.{verb_named}
 use Rattle.ft_words.specs.declared.answer.Asked.{Asked}
 use Rattle.ft_words.specs.declared.answer.Asked.TheVariants as ask
@@ -45,6 +45,7 @@ abbrev pub AsksOf : Option Verb → List Text → Asked → Type 0
 AsksOf (Some verb.Step) others (ask.Step step) = AsksStep others step
 AsksOf (Some verb.Copy) others ask.Copy = fault_of copy_app others ≡ []
 AsksOf (Some verb.Gen) others (ask.Gen number) = AsksGen others number
+AsksOf (Some verb.Import) others ask.Import = fault_of import_app others ≡ []
 AsksOf _ others _ = ⊥
 
 -- this is what the words ask for

@@ -1,4 +1,4 @@
--- The three commands, as `clap` reads them.
+-- The four commands, as `clap` reads them.
 use Rattle.std.specs.Prelude.{ℕ, [], ◌∷◌, Some, true, codes, pos}
 use Rattle.ft_types.specs.Limits.{lowest_rate, highest_rate}
 use Rattle.clap.specs.Words.{App, Rule, Text, new_app, new_rule, with_rule}
@@ -54,8 +54,14 @@ unfoldable pub gen_app : App
 gen_app = with_rule (with_rule (bare_app (codes "gen"))
     (number_rule (codes "number") (numbers_within 0 4294967295))) (file_rule (codes "out"))
 
+-- `import MOD OUT`
+unfoldable pub import_app : App
+import_app = with_rule (with_rule (bare_app (codes "import"))
+    (file_rule (codes "mod"))) (file_rule (codes "out"))
+
 -- the shape of each command
 abbrev pub app_of_verb : Verb → App
 app_of_verb verb.Step = step_app
 app_of_verb verb.Copy = copy_app
 app_of_verb verb.Gen = gen_app
+app_of_verb verb.Import = import_app

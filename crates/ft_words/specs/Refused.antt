@@ -13,7 +13,8 @@ use Rattle.ft_words.specs.declared.verb.Verb.TheVariants as verb
 abbrev pub verb_named : Text → Option Verb
 verb_named word = if bytes_eq word (codes "step") then Some verb.Step
     else (if bytes_eq word (codes "copy") then Some verb.Copy
-    else (if bytes_eq word (codes "gen") then Some verb.Gen else None))
+    else (if bytes_eq word (codes "gen") then Some verb.Gen
+    else (if bytes_eq word (codes "import") then Some verb.Import else None)))
 
 -- `clap` finds fault with the words behind the command
 abbrev pub FindsFault : Option Verb → List Text → Type 0

@@ -18,6 +18,8 @@ pub enum Asked {
     Step(Step),
     /// A song read and written again.
     Copy,
+    /// A ProTracker module read, and written as a song.
+    Import,
     /// The song of a number.
     Gen {
         /// 0 to 4,294,967,295.

@@ -63,6 +63,10 @@ fn asked_of(alloc: Global, verb: Verb, words: &[String]) -> Result<Asked, NamesF
         Verb::Gen => Ok(Asked::Gen {
             number: gen_asked(alloc, words)?,
         }),
+        Verb::Import => match parsed(alloc, Verb::Import, words) {
+            Ok(_) => Ok(Asked::Import),
+            Err(fault) => Err(fault),
+        },
     }
 }
 

@@ -2,7 +2,7 @@
 
 ghost use Rattle.std.specs.Prelude.{◌≡◌, IfOk, false};
 ghost use Rattle.clap.specs.Words.{app_of, rule_of};
-ghost use Rattle.ft_words.specs.Commands.{app_of_verb, bare_app, copy_app, file_rule, gen_app, number_rule, option_rule, step_app};
+ghost use Rattle.ft_words.specs.Commands.{app_of_verb, bare_app, copy_app, file_rule, gen_app, import_app, number_rule, option_rule, step_app};
 
 use crate::verb::Verb;
 use clap::builder::ValueParser;
@@ -81,6 +81,15 @@ fn gen_command<'a>(alloc: Global) -> Result<Command<'a>, AllocError>
         .arg(file_arg(alloc, "out"))
 }
 
+/// `import MOD OUT`.
+fn import_command<'a>(alloc: Global) -> Result<Command<'a>, AllocError>
+    ensures { IfOk result (λ c. app_of c ≡ import_app) }
+{
+    bare_command(alloc, "import")
+        .arg(file_arg(alloc, "mod"))?
+        .arg(file_arg(alloc, "out"))
+}
+
 /// The command of a first word.
 pub fn command_of<'a>(alloc: Global, verb: Verb) -> Result<Command<'a>, AllocError>
     ensures { IfOk result (λ c. app_of c ≡ app_of_verb verb) }
@@ -89,5 +98,6 @@ pub fn command_of<'a>(alloc: Global, verb: Verb) -> Result<Command<'a>, AllocErr
         Verb::Step => step_command(alloc),
         Verb::Copy => copy_command(alloc),
         Verb::Gen => gen_command(alloc),
+        Verb::Import => import_command(alloc),
     }
 }

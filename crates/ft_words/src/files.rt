@@ -2,8 +2,8 @@
 
 ghost use Rattle.std.specs.Prelude.{◌≡◌, ◌≢◌, [], ◌∷◌, Some, Err, IfErr, IfOk, codes, map, string_bytes};
 ghost use Rattle.clap.specs.Words.{fault_of, first_value, found_of};
-ghost use Rattle.ft_words.specs.Commands.{app_of_verb, copy_app, gen_app, step_app};
-ghost use Rattle.ft_words.specs.Files.{AreNamedBy, NamesCopy, NamesGen, NamesOf, NamesStep};
+ghost use Rattle.ft_words.specs.Commands.{app_of_verb, copy_app, gen_app, import_app, step_app};
+ghost use Rattle.ft_words.specs.Files.{AreNamedBy, NamesCopy, NamesGen, NamesImport, NamesOf, NamesStep};
 ghost use Rattle.ft_words.specs.Refused.{IsNoCommand, IsRefused};
 
 use crate::fault::NamesFault;
@@ -19,7 +19,7 @@ pub type Texts = Items<String>;
 /// The files of a command. A list is empty where the command has no such file.
 #[derive(Debug, Drop)]
 pub struct FileNames {
-    /// The song to be read: one name, or none for `gen`.
+    /// The song, or the module of `import`, to be read: one name, or none for `gen`.
     pub song: Texts,
     /// What is written, a WAV file or a song: one name.
     pub wav: Texts,
@@ -102,6 +102,27 @@ fn gen_names(alloc: Global, words: &[String]) -> Result<FileNames, NamesFault>
     })
 }
 
+/// The files of `import`.
+fn import_names(alloc: Global, words: &[String]) -> Result<FileNames, NamesFault>
+    ensures files { IfOk result (NamesImport (map string_bytes words.now)) }
+    ensures usage { result ≡ Err NamesFault.Usage
+        → fault_of import_app (map string_bytes words.now) ≢ [] }
+{
+    let matches = parsed(alloc, Verb::Import, words)?;
+    let Some(module) = matches.get_str("mod") else {
+        unreachable!();
+    };
+    let Some(out) = matches.get_str("out") else {
+        unreachable!();
+    };
+    Ok(FileNames {
+        song: list_of(alloc, module)?,
+        wav: list_of(alloc, out)?,
+        ledger: Texts::new(alloc),
+        scripts: Texts::new(alloc),
+    })
+}
+
 /// The files of a command, by the words behind it.
 fn names_of(alloc: Global, verb: Verb, words: &[String]) -> Result<FileNames, NamesFault>
     ensures files { IfOk result (NamesOf (Some verb) (map string_bytes words.now)) }
@@ -112,6 +133,7 @@ fn names_of(alloc: Global, verb: Verb, words: &[String]) -> Result<FileNames, Na
         Verb::Step => step_names(alloc, words),
         Verb::Copy => copy_names(alloc, words),
         Verb::Gen => gen_names(alloc, words),
+        Verb::Import => import_names(alloc, words),
     }
 }
 

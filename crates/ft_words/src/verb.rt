@@ -12,6 +12,8 @@ pub enum Verb {
     Copy,
     /// Makes the song of a number.
     Gen,
+    /// Reads a ProTracker module and writes its song.
+    Import,
 }
 
 /// The command that a word names.
@@ -24,6 +26,8 @@ pub fn verb_of(word: &str) -> Option<Verb>
         Some(Verb::Copy)
     } else if word == "gen" {
         Some(Verb::Gen)
+    } else if word == "import" {
+        Some(Verb::Import)
     } else {
         None
     }

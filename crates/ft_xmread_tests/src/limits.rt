@@ -1,13 +1,13 @@
 //! As many parts as the format has room for.
 
-use ft_songs::{Change, bare_instrument, changed, one_note_with};
+use ft_songs::{Splice, bare_instrument, changed, one_note_with};
 use ft_xmread::read_xm;
 use std::alloc::{AllocError, Global};
 use std::test::Fail;
 
 /// How many instruments are read of the song of one note with 127 more, all without samples.
 fn instruments_read(alloc: Global) -> Result<Option<usize>, AllocError> {
-    let count = Change {
+    let count = Splice {
         from: 72,
         to: 74,
         bytes: &[128, 0],
@@ -27,14 +27,14 @@ fn instruments_read(alloc: Global) -> Result<Option<usize>, AllocError> {
 /// How many patterns are read of the song of one note with 255 more, all empty, and the rows of the
 /// last.
 fn patterns_read(alloc: Global) -> Result<Option<(usize, u16)>, AllocError> {
-    let count = Change {
+    let count = Splice {
         from: 70,
         to: 72,
         bytes: &[0, 1],
     };
     let song = one_note_with(alloc, &[count])?;
     let patterns = [9, 0, 0, 0, 0, 0, 1, 0, 0].repeat(alloc, 255)?;
-    let more = Change {
+    let more = Splice {
         from: 475,
         to: 475,
         bytes: &patterns,

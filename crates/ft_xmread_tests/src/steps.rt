@@ -1,6 +1,6 @@
 //! Songs that differ from the song of one note, step by step.
 
-use ft_songs::{Change, changed, one_note_song};
+use ft_songs::{Splice, changed, one_note_song};
 use std::alloc::{AllocError, Global};
 
 /// A change of a song's bytes. Places are those that the steps before left.
@@ -17,11 +17,11 @@ pub enum Step<'a> {
 /// Bytes after a step.
 fn stepped(alloc: Global, song: &[u8], step: Step) -> Result<Vec<u8>, AllocError> {
     match step {
-        Step::Put(from, to, bytes) => changed(alloc, song, &[Change { from, to, bytes }]),
+        Step::Put(from, to, bytes) => changed(alloc, song, &[Splice { from, to, bytes }]),
         Step::Again(from, to, at) => {
             let bytes = song.get(from..to).unwrap_or(&[]);
             let (from, to) = (at, at);
-            changed(alloc, song, &[Change { from, to, bytes }])
+            changed(alloc, song, &[Splice { from, to, bytes }])
         }
         Step::Cut(len) => song.get(..len).unwrap_or(song).to_vec(alloc),
     }

@@ -1,4 +1,4 @@
-use Rattle.std.proofs.Common.{◌≡◌, ℕ, List, length, sym, subst, ◌∙◌}
+use Rattle.std.proofs.Common.{ℕ, List, length, sym, subst, ◌∙◌}
 use Rattle.ft_replay.specs.State.{first_state}
 use Rattle.ft_replay.specs.Tick.{Tick}
 use Rattle.ft_run.specs.Measure.{ticks_of_song}

@@ -1,7 +1,6 @@
-use Rattle.std.proofs.Common.{◌≡◌, ◌∷◌, [], ◌++◌, ◌-◌, ◌*◌, ◌+◌, ℕ, ℤ, List, length, take, refl, sym, ap, subst, ◌∙◌, arith}
+use Rattle.std.proofs.Common.{◌≡◌, ◌∷◌, [], ◌++◌, ◌-◌, ◌*◌, ◌+◌, ℕ, ℤ, List, take, refl, sym, ap, subst, ◌∙◌, arith}
 use Rattle.std.proofs.lemmas.List.{length-append, take_all}
 use Rattle.std.proofs.lemmas.Result.{err_from_is_err_and}
-use Rattle.ft_replay.specs.Tick.{Tick}
 use Rattle.ft_run.specs.Ticks.{AreMissing, HasPlayedTicks, cut_sound}
 use Rattle.ft_run.proofs.Missing.{cut_on, missing_push}
 use Rattle.ft_run.proofs.TicksPlayed.{piece_of, plays_never, plays_on}

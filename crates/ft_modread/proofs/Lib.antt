@@ -1,0 +1,10 @@
+pub mod Each
+pub mod Faults
+pub mod Orders
+pub mod Nearest
+pub mod Frames
+pub mod Parts
+pub mod Valids
+pub mod Passes
+pub mod Places
+pub mod Clauses
