@@ -1,5 +1,6 @@
 pub mod Lists
 pub mod Packed
+pub mod OneChanged
 pub mod Walked
 pub mod Found
 pub mod Instruments

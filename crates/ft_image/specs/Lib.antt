@@ -4,5 +4,6 @@ pub mod Read
 pub mod Laid
 pub mod Laws
 pub mod Passes
+pub mod Changed
 pub mod PassLaws
 pub mod Drafts

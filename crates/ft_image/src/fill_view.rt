@@ -2,7 +2,7 @@
 
 ghost use Rattle.std.specs.Prelude.{◌≡◌, ◌≢◌, ◌≤◌, ◌<◌, ◌+◌, ◌*◌, ℕ, List, length, set};
 ghost use Rattle.ft_segments.specs.Packing.{word_at};
-ghost use Rattle.ft_segments.specs.Walk.{Placed};
+ghost use Rattle.ft_segments.specs.Walk.{Placed, SameWords};
 ghost use Rattle.ft_image.specs.Read.{MayShowAll};
 
 use crate::view::WordView;
@@ -30,7 +30,8 @@ pub trait Fill: WordView {
 
     /// What holds of each view that may be filled: what fills leave, nothing, a read and one more
     /// fill leave too; a read leaves the words and which segments may be filled; the words of those
-    /// are there. It does nothing.
+    /// are there. A segment that it shows of a version has the words last written, and may not be
+    /// filled. It does nothing.
     fn fill_law(&self)
         ensures here { (a : Self) → rest a a }
         ensures through { (a b c : Self) → rest a b → rest b c → rest a c }
@@ -38,7 +39,11 @@ pub trait Fill: WordView {
         ensures words { (a b : Self) → Self.same a b → written b ≡ written a }
         ensures may { (a b : Self) (s : ℕ) → Self.same a b → may_fill a s → may_fill b s }
         ensures room { (a : Self) (s : ℕ) → may_fill a s
-            → s * 256 + 256 ≤ length (written a) };
+            → s * 256 + 256 ≤ length (written a) }
+        ensures agrees { (a : Self) (p : Placed) (s : ℕ) → s < Self.segments a
+            → Self.may_show a p s → SameWords p.pool (written a) s }
+        ensures apart { (a : Self) (p : Placed) (s : ℕ) → s < Self.segments a
+            → Self.may_show a p s → may_fill a s → ⊥ };
 }
 
 /// What the words of one segment are to be.

@@ -1,0 +1,10 @@
+mod Pairs
+mod Roots
+mod Grouped
+mod Stretched
+mod Refilled
+mod Frames
+mod Parts
+mod Fitting
+mod Shares
+mod Shown
