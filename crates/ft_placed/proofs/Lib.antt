@@ -1,0 +1,10 @@
+mod Lists
+mod Walked
+mod Measured
+mod OfPatterns
+mod OfInstruments
+mod Pieces
+mod OfSamples
+mod InOrder
+mod InInstruments
+mod InDropped

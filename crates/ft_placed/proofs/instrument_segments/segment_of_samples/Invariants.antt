@@ -1,0 +1,18 @@
+use Rattle.std.proofs.Common.{◌≡◌, ℕ, drop}
+use Rattle.std.specs.List.{flat_map, slice_get}
+use Rattle.ft_types.specs.declared.module.Module.{Module}
+use Rattle.ft_segments.specs.Walk.{Placed, ids_of}
+use Rattle.ft_changes.specs.Ids.{samples_of}
+use Rattle.ft_changes.specs.Parts.{sample_segments}
+use Rattle.ft_image.specs.Shown.{Shows}
+use Rattle.ft_image.specs.Read.{MayShowAll}
+use Rattle.ft_placed.proofs.instrument_segments.segment_of_samples.Given as goal
+
+abbrev pub invariant-loop-s : goal.invariant-loop-s
+invariant-loop-s g l = record {
+  narrows : (p : Placed) (s : ℕ) → g.V.WordView.may_show l.view p s → g.V.WordView.may_show l.fn.view p s;
+  answer : (p : Placed) (m : Module) → MayShowAll g.V.WordView.may_show l.view p → Shows p m → p.root ≡ l.root
+      → slice_get (flat_map sample_segments (samples_of (ids_of p) l.at)) l.k
+      ≡ slice_get (flat_map sample_segments (drop l.s (samples_of (ids_of p) l.at))) l.rest;
+  same : g.V.WordView.same l.fn.view l.view;
+}

@@ -1,0 +1,3 @@
+pub mod Songs
+pub mod Roots
+pub mod Laws
