@@ -1,0 +1,10 @@
+mod Rows
+mod Songs
+mod SongSame
+mod SongTable
+mod PartsAlone
+mod Faultless
+mod Places
+mod Instruments
+mod Table
+mod Samples
