@@ -1,0 +1,14 @@
+mod Roots
+mod SmallReaches
+mod Needs
+mod Stored
+mod Fresh
+mod Placing
+mod RootPut
+mod CellPut
+mod PatternCases
+mod PatternPut
+mod NoMore
+mod SampleFaults
+mod InstrumentIds
+mod OldInstrument

@@ -1,0 +1,3 @@
+pub mod Small
+pub mod Changed
+pub mod InstrumentEdits
