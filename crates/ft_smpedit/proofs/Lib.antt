@@ -1,0 +1,7 @@
+mod Places
+mod Changed
+mod Refilled
+mod Packs
+mod Once
+mod SlotWords
+mod Touched
