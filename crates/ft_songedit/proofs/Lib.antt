@@ -8,7 +8,7 @@ mod RootPut
 mod CellPut
 mod PatternCases
 mod PatternPut
-mod NoMore
-mod SampleFaults
-mod InstrumentIds
-mod OldInstrument
+mod Reached
+mod Arms
+mod StoredSamples
+mod KeptSamples

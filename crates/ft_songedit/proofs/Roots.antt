@@ -1,5 +1,5 @@
 -- The roots of parts as lists.
-use Rattle.std.proofs.Common.{◌≡◌, ℕ, zero, suc, ◌-◌, ◌<◌, ◌≤◌, List, [], ◌∷◌, length, take, map, refl, ap, sym, ◌∙◌, arith}
+use Rattle.std.proofs.Common.{◌≡◌, ℕ, zero, suc, ◌+◌, ◌-◌, ◌<◌, ◌≤◌, List, [], ◌∷◌, length, take, map, refl, ap, sym, ◌∙◌, arith}
 use Rattle.std.proofs.lemmas.List.{length-map, take-map}
 use Rattle.ft_edits.specs.Lists.{without_last}
 use Rattle.ft_changes.specs.Parts.{put}
@@ -23,3 +23,20 @@ put_length zero x [] le = omega arith
 put_length zero x (y ∷ xs) le = omega arith
 put_length (suc k) x [] le = absurd (omega (arith, le))
 put_length (suc k) x (y ∷ xs) le = omega (arith, put_length k x xs (omega (arith, le)))
+
+pub put_long : {X : Type 0} (k : ℕ) (x : X) (xs : List X) → k ≡ length xs → length (put k x xs) ≡ length xs + 1
+put_long zero x [] is = refl
+put_long zero x (y ∷ xs) is = absurd (omega (arith, is))
+put_long (suc k) x [] is = absurd (omega (arith, is))
+put_long (suc k) x (y ∷ xs) is = omega (arith, put_long k x xs (omega (arith, is)))
+
+pub put_same : {X : Type 0} (k : ℕ) (x : X) (xs : List X) → k < length xs → length (put k x xs) ≡ length xs
+put_same zero x [] lt = absurd (omega (arith, lt))
+put_same zero x (y ∷ xs) lt = refl
+put_same (suc k) x [] lt = absurd (omega (arith, lt))
+put_same (suc k) x (y ∷ xs) lt = omega (arith, put_same k x xs (omega (arith, lt)))
+
+pub few_left : {X : Type 0} (xs : List X) → length xs ≤ 1 → without_last xs ≡ []
+few_left [] le = refl
+few_left (x ∷ []) le = refl
+few_left (x ∷ y ∷ xs) le = absurd (omega (arith, le))

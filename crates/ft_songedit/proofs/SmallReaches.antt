@@ -46,7 +46,7 @@ first_is_root (reaches.LastSample at) fresh ids = refl
 first_is_root (reaches.Sample at s) fresh ids = refl
 first_is_root (reaches.Frames at s first last gone) fresh ids = refl
 
-is_itself : (s : ℕ) → is_it s s ≡ 1
+pub is_itself : (s : ℕ) → is_it s s ≡ 1
 is_itself s = rw (eq-eqb s s refl) refl
 
 pub root_is_of_it : (p : Placed) → IsOf p p.root

@@ -1,3 +1,4 @@
 pub mod Small
 pub mod Changed
-pub mod InstrumentEdits
+pub mod Instruments
+pub mod Samples
