@@ -13,6 +13,8 @@ pub with_steps : (writer : WriterState) (settled : List Hold) (steps : List Word
     → IsDesk (desk_of (record writer { account = record writer.account { settled = settled; steps = steps } }) journal births room song
     version)
 with_steps writer settled steps journal births room song version desk = record {
+  sizes = desk.sizes;
+  inside = desk.inside;
   lawful = desk.lawful;
   current = desk.current;
   committed = desk.committed;

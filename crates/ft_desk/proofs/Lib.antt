@@ -2,3 +2,8 @@ pub mod Numbered
 pub mod Named
 pub mod Opened
 pub mod Kept
+pub mod Surveyed
+pub mod Marked
+pub mod PinNames
+pub mod Whole
+pub mod Answered

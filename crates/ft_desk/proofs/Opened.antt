@@ -152,6 +152,8 @@ opened_desk stays blocks given register song version words journal shows size fi
     let within : (segment : ℕ) → 1 ≤ uses segment (walk pool 0) → segment < live
     = λ segment of. let lt = shows.sound.within segment (subst (λ (ids : SongIds). 1 ≤ uses segment ids) there.0 of) in omega arith in
     record {
+      sizes = refl;
+      inside = omega arith;
       lawful = subst (λ (es : List Entry). IsLawful song version es) (sym none) tt;
       current = ap (λ (es : List Entry). last_version version es) (sym none);
       committed = λ number. (

@@ -1,5 +1,5 @@
 -- What contracts see of a desk, and what holds of every desk.
-use Rattle.std.specs.Prelude.{◌≡◌, ◌↔◌, ℕ, ◌-◌, ◌<◌, ◌≤◌, List, [], ◌∷◌, ◌++◌, length, replicate, slice_index, slice_index_or, true, false, Option, Some, IsSomeAnd}
+use Rattle.std.specs.Prelude.{◌≡◌, ◌↔◌, ℕ, ◌+◌, ◌-◌, ◌<◌, ◌≤◌, List, [], ◌∷◌, ◌++◌, length, replicate, slice_index, slice_index_or, true, false, Option, Some, IsSomeAnd}
 use Rattle.ft_types.specs.declared.module.Module.{Module}
 use Rattle.ft_types.specs.declared.journal.Entry.{Entry}
 use Rattle.ft_types.specs.Journals.{JournalState}
@@ -89,6 +89,9 @@ pub record IsVersionShown (desk : DeskState) (version : ℕ) (placed : PlacedVer
   pub channels : (desk_song desk version).channels ≡ desk.writer.register.sizes.channels
 
 pub record IsDesk (desk : DeskState) : Type 0 where
+  -- the writer's pass knows the sizes of its register, and which of its slots is current
+  pub sizes : desk.writer.account.sizes ≡ desk.writer.register.sizes
+  pub inside : desk.writer.account.slot < desk.writer.register.sizes.readers + 2
   -- each batch of the journal makes a song of the one before, and the versions count on
   pub lawful : IsLawful desk.opening desk.first desk.journal.entries
   -- the current version is the last that was committed

@@ -1,3 +1,4 @@
 pub mod Parts
 pub mod Desk
 pub mod Laws
+pub mod Survey

@@ -4,7 +4,9 @@
 
 mod desk;
 mod laws;
+mod pinned;
 mod reserving;
+mod survey;
 
 pub use desk::Desk;
-pub use laws::{different_segments_are_different_parts, segments_are_parts};
+pub use laws::{different_segments_are_different_parts, marked_is_found, segments_are_parts};
